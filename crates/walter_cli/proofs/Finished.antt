@@ -8,7 +8,7 @@ use Rattle.walter_base.specs.declared.names.SiteId.{SiteId}
 use Rattle.walter_cell.specs.Cells.{CellValue, IsCell}
 use Rattle.walter_cell.specs.Entries.{HaveRisingStamps}
 use Rattle.walter_cell.specs.Nodes.{IsSound, LeavesRecords as LeavesOn, arms_under}
-use Rattle.walter_cluster.specs.Benches.{BenchValue, EachKeeps, IsOf, IsBench, IsToldAt, AtEach, arms_at, trails_of, disks_of}
+use Rattle.walter_cluster.specs.Benches.{BenchValue, EachKeeps, IsLaidFor, IsOf, IsBench, IsToldAt, AtEach, arms_at, shape_of, trails_of, disks_of}
 use Rattle.walter_cluster.specs.Builds.{LeavesDisk}
 use Rattle.walter_cluster.specs.Moments.{moment_of}
 use Rattle.walter_cluster.proofs.Changes.{there_is}
@@ -21,6 +21,7 @@ use Rattle.walter_play.specs.Scripts.{ArmsMore, AreArmed, arms_for, arms_of, all
 use Rattle.walter_play.proofs.Arming.{for_more}
 use Rattle.walter_rules.specs.declared.entry.Entry.{Entry}
 use Rattle.walter_rules.specs.Knowledge.{site_at}
+use Rattle.walter_rules.specs.Layouts.{Layout}
 use Rattle.walter_rules.specs.Merges.{AreLinked}
 use Rattle.walter_scenario.specs.declared.scenario.Arm.{Arm}
 use Rattle.walter_scenario.specs.declared.scenario.Scenario.{Scenario}
@@ -29,7 +30,7 @@ use Rattle.walter_cli.specs.declared.ended.Fault.TheVariants.{Usage, Scenario as
 use Rattle.walter_cli.specs.Disks.{AreGiven}
 use Rattle.walter_cli.specs.Ending.{Drives, IsBuilt, IsWholeBack, IsWriteFault, EndsRun}
 use Rattle.walter_cli.specs.Headline.{AreCallsOf, AreTold, LeavesRecords, IsDiskOfRun, IsDiskOfWhole, IsRun, IsWholeRun, trail_at}
-use Rattle.walter_cli.specs.Racks.{RackAt, Racked, IsTold, racked}
+use Rattle.walter_cli.specs.Racks.{RackAt, Racked, Holds, IsTold, racked}
 use Rattle.walter_cli.specs.Words.{written_by}
 use Rattle.walter_words.specs.declared.asked.Command.{Command}
 use Rattle.walter_cli.proofs.Driven.{armed_by, driven_from, driven_by_fewer}
@@ -58,9 +59,9 @@ arms_front (Some told) t i some more all is = (
 )
 
 -- the arms of the disks of a bench that was built are those of the disks that it was built over
-pub arms_built : {D : Type 0} (g : Ghosts D) (bench : BenchValue D) (i : ℕ) (disk now : D)
-    → slice_get (disks_of bench.cells) i ≡ Some (Some now) → LeavesDisk g disk now → arms_at g bench.cells i ≡ (g.known disk).arms
-arms_built {D = D} g bench i disk now at left =
+pub arms_built : {D : Type 0} (g : Ghosts D) (t : Scenario) (bench : BenchValue D) (i : ℕ) (disk now : D)
+    → slice_get (disks_of bench.cells) i ≡ Some (Some now) → LeavesDisk g t disk now → arms_at g bench.cells i ≡ (g.known disk).arms
+arms_built {D = D} g t bench i disk now at left =
     let cell = field_of (λ (c : CellValue D). c.node.disk) bench.cells i (Some now) at in
     field_at (λ (c : CellValue D). arms_under g c.node.disk) bench.cells i cell.0 None cell.1
     ∙ (ap (λ (o : Option D). arms_under g o) cell.2 ∙ left.arms)
@@ -139,18 +140,36 @@ module _ {D : Type 0} (g : Ghosts D) (t : Scenario) (before mid after : RackAt D
       subst (λ (es : List Entry). count_by (λ e. is_faulty e.came.outcome) es ≤ (g.known disk).faults)
       (sym (trail_of_cell i cell.0 cell.1)) (of_disk cell.0.node.disk disk _ cell.2 (sound i cell.0 cell.1).0.faults)
 
+  -- the journal of a cell is laid out as it was when its site began
+  laid_at : (i : ℕ) (cell : CellValue D) → slice_get bench.cells i ≡ Some cell
+      → Holds rack i (λ bytes. IsLaidFor t bytes cell.node.layout)
+  laid_at i cell at =
+      let within = slice_get_within bench.cells i cell at in
+      let first = there_is built.cells i (let l = keeps.long in omega (arith, within, l)) in
+      let was = taken_at i (let l = has.of.sites in let w = slice_get_within built.cells i first.0 first.1 in omega (arith, w, l)) in
+      let same : cell.node.layout ≡ first.0.node.layout = (keeps.each i first.0 cell first.1 at).node.layout in
+      holds_taken g before.disks i was.0 (has.taken.told i was.0 was.1) (λ bytes. IsLaidFor t bytes cell.node.layout)
+      (subst (λ (l : Layout). IfSome (g.known was.0).reads (λ bytes. IsLaidFor t bytes l)) (sym same)
+      (has.laid i was.0 first.0 was.1 first.1))
+
   -- where it is told, a crash leaves the records of the trail
   records_at : (i : ℕ) (disk : D) → slice_get back i ≡ Some disk → IsTold rack i
-      → LeavesRecords t i (trail_at trails i) (g.may_leave disk)
+      → LeavesRecords rack t i (trail_at trails i) (g.may_leave disk)
   records_at i disk at told =
       let cell = cell_of i disk at in
       let stands = (sound i cell.0 cell.1).0 in
       let here = told_at i (below_back i disk at) told cell.0 cell.1 in
-      let leaves : LeavesOn g cell.0.node.catalog cell.0.node.site cell.0.node.trail disk =
-      of_disk cell.0.node.disk disk (LeavesOn g cell.0.node.catalog cell.0.node.site cell.0.node.trail) cell.2 (stands.leaves here) in
-      subst (λ (es : List Entry). LeavesRecords t i es (g.may_leave disk)) (sym (trail_of_cell i cell.0 cell.1))
-      (subst (λ (k : Catalog). LeavesOn g k (site_at i) cell.0.node.trail disk) (of.catalogs i cell.0 cell.1)
-      (subst (λ (n : SiteId). LeavesOn g cell.0.node.catalog n cell.0.node.trail disk) (is.cells i cell.0 cell.1).site leaves))
+      let layout = cell.0.node.layout in
+      let leaves : LeavesOn g cell.0.node.catalog layout cell.0.node.site cell.0.node.trail disk =
+      of_disk cell.0.node.disk disk (LeavesOn g cell.0.node.catalog layout cell.0.node.site cell.0.node.trail) cell.2 (stands.leaves here) in
+      subst (λ (es : List Entry). LeavesRecords rack t i es (g.may_leave disk)) (sym (trail_of_cell i cell.0 cell.1))
+      (record {
+        layout = layout;
+        laid = laid_at i cell.0 cell.1;
+        records =
+            subst (λ (k : Catalog). LeavesOn g k layout (site_at i) cell.0.node.trail disk) (of.catalogs i cell.0 cell.1)
+            (subst (λ (n : SiteId). LeavesOn g cell.0.node.catalog layout n cell.0.node.trail disk) (is.cells i cell.0 cell.1).site leaves);
+      })
 
   -- the arms of the disk of a site are those of its cell
   arms_are : (i : ℕ) (disk : D) → slice_get back i ≡ Some disk → (g.known disk).arms ≡ arms_at g bench.cells i
@@ -196,10 +215,10 @@ module _ {D : Type 0} (g : Ghosts D) (t : Scenario) (before mid after : RackAt D
     linked = linked;
     no_record_before = λ i below.
         let was = taken_at i below in
-        holds_taken g before.disks i was.0 (has.taken.told i was.0 was.1) HasNoRecord (has.no_records i was.0 was.1);
+        holds_taken g before.disks i was.0 (has.taken.told i was.0 was.1) (HasNoRecord (shape_of t)) (has.no_records i was.0 was.1);
     told = λ told.
-        subst (λ (ts : List (List Entry)). AreTold t ts) (sym trails_are)
-        (told_trails g t bench of is sound (λ i below. told_at i below (told i below)) whole
+        subst (λ (ts : List (List Entry)). AreTold rack t ts) (sym trails_are)
+        (told_trails g t bench of is sound rack laid_at (λ i below. told_at i below (told i below)) whole
         (subst (λ (ts : List (List Entry)). AreLinked ts) trails_are linked));
     disks = subst (λ (n : ℕ). rack.handed n (λ i. IsDiskOfRun rack t trails i)) long_taken
         (handed_back g before mid after has.disks back returned (λ i. IsDiskOfRun rack t trails i) disk_of_run);

@@ -5,7 +5,6 @@ use Rattle.std.specs.Result.{is_err}
 use Rattle.std.proofs.lemmas.List.{append_assoc, length-append}
 use Rattle.std.proofs.lemmas.List.Elements.{All-nil, All-push, All-weaker, All-contains, Contains-append_left, Contains-append_cases}
 use Rattle.std.proofs.lemmas.Option.{slice_get_within}
-use Rattle.walter_cluster.specs.Builds.{LeavesDisk}
 use Rattle.walter_disk.specs.Racks.{IsFresh}
 use Rattle.walter_disk.specs.declared.disk.Disk.{Ghosts}
 use Rattle.walter_psi.proofs.Lists.{slice_get-push_cases, slice_get-append_left, slice_get-push}
@@ -235,14 +234,6 @@ module _ {D : Type 0} (g : Ghosts D) (a b c : RackAt D) where
         let now = sure (omega (arith, m, enough, before)) in
         omega (arith, m, before, now));
   }
-
--- a disk that nothing was done to
-pub left_alone : {D : Type 0} (g : Ghosts D) (disk : D) → LeavesDisk g disk disk
-left_alone g disk = record {
-  images = λ bytes only image left. inl (only.only image left);
-  faults = omega arith;
-  arms = refl;
-}
 
 pub on_ok : {X E : Type 0} (r : Result X E) (P Q : Type 0) → (P → Q) → OnOk r P → OnOk r Q
 on_ok (Ok x) P Q by holds = by holds

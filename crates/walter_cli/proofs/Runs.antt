@@ -1,9 +1,10 @@
 -- What the parts of a call of the program promise together.
 use Rattle.std.proofs.Common.{◌≡◌, ◌≢◌, ℕ, ◌<◌, List, [], ◌++◌, length, map, Option, Some, None, option_map, refl, ap, sym, ◌∙◌, subst, arith, inl, inr, ◌⊎◌}
-use Rattle.std.specs.Prelude.{String, string_bytes}
+use Rattle.std.specs.Prelude.{◌^◌, String, string_bytes}
 use Rattle.std.specs.Global.{Global}
 use Rattle.std.proofs.lemmas.Bool.{cases_lt}
 use Rattle.std.proofs.lemmas.List.{append-nil, length-append}
+use Rattle.walter_cluster.specs.Benches.{shape_of}
 use Rattle.walter_engine.specs.Begins.{HasNoRecord}
 use Rattle.walter_scenario.specs.declared.place.Detail.{Detail}
 use Rattle.walter_scenario.specs.declared.place.Place.{Place}
@@ -19,8 +20,8 @@ use Rattle.walter_cli.specs.declared.ended.Fault.TheVariants.{Usage, Scenario as
 use Rattle.walter_cli.specs.declared.ended.JournalCause.{JournalCause}
 use Rattle.walter_cli.specs.Ending.{IsTakeFault, IsPoseFault, IsWholeBack, MayHaveRun, EndsRun, EndsText}
 use Rattle.walter_cli.specs.Sources.{HasNoReading, IsTaken}
-use Rattle.walter_cli.specs.Headline.{Outside, IsRun, Runs, RunsWhole, Says, OfScenario, IsRackFault, IsFirstUnfit, FailsEarly, Promise}
-use Rattle.walter_cli.specs.Racks.{Racked, AreAllTold, Holds, IsUntouched, IsFaultlessBefore, HasCause}
+use Rattle.walter_cli.specs.Headline.{Outside, HasNotBegun, IsRun, Runs, RunsWhole, Says, OfScenario, IsRackFault, IsFirstUnfit, FailsEarly, Promise}
+use Rattle.walter_cli.specs.Racks.{Racked, AreAllTold, Holds, IsUntaken, IsUntouched, IsFaultlessBefore, HasCause}
 use Rattle.walter_cli.specs.Statuses.{status_of}
 use Rattle.walter_cli.specs.Words.{Asks, AskForNone, IsForText, IsPosed, IsRead, IsWrong, Poses, but_for_steps, written_by}
 use Rattle.walter_words.specs.Words.{AsksForText}
@@ -28,6 +29,7 @@ use Rattle.walter_words.specs.declared.asked.Command.{Command}
 use Rattle.walter_words.specs.declared.asked.Command.TheVariants.{Play, Run, Load, Say}
 use Rattle.walter_cli.proofs.Causes.{cause_has_record, one_cause}
 use Rattle.walter_cli.proofs.Giving.{of_both}
+use Rattle.walter_cli.proofs.Wholes.{reading_playable}
 
 -- what a source that has no reading gave is wrong at the place that is named
 none_wrong : (before after : Option (List ℕ)) (bytes : List ℕ) (place : Place) → HasNoReading before after place
@@ -80,6 +82,20 @@ poses_reading (Run trace disks) left s reads poses = (poses.0, poses.1, poses.2,
 poses_reading (Load seed calls) left s reads poses = absurd reads
 poses_reading (Say text) left s reads poses = absurd reads
 
+-- the capacity of what is posed is that of a disk
+reading_small : (bytes : List ℕ) (s : Scenario) → IsReading bytes s → s.capacity < 2 ^ 64
+reading_small bytes s reading = let most = (reading_playable bytes s reading).capacity.1 in omega (arith, most)
+
+poses_small : (command : Command) (left : Option (List ℕ)) (s : Scenario) → Poses command left s → s.capacity < 2 ^ 64
+poses_small (Play trace disks) left s poses = reading_small poses.0 s poses.2
+poses_small (Run trace disks) left s poses =
+    let small = reading_small poses.0 poses.1 poses.3 in
+    let same : s.capacity ≡ poses.1.capacity = ap (λ (t : Scenario). t.capacity) poses.4 in
+    omega (arith, small, same)
+poses_small (Load seed calls) left s poses =
+    let same : s.capacity ≡ 16777216 = ap (λ (t : Scenario). t.capacity) poses in omega (arith, same)
+poses_small (Say text) left s poses = absurd poses
+
 -- bytes that have no reading pose nothing
 poses_none : (command : Command) (before after : Option (List ℕ)) (s : Scenario) (place : Place) → IsRead command
     → Poses command before s → HasNoReading before after place → ⊥
@@ -97,21 +113,22 @@ posed_reading (Load seed calls) before after bytes s reads posed told = absurd r
 posed_reading (Say text) before after bytes s reads posed told = absurd reads
 
 -- the first site whose disk is unfit is one, for one cause
-one_unfit : (rack : Racked) (sites a b : ℕ) (c d : JournalCause) (p q : ℕ) → AreAllTold rack sites → b < sites
-    → IsFirstUnfit rack a c p → IsFirstUnfit rack b d q → (a ≡ b) × (c ≡ d) × (p ≡ q)
-one_unfit rack sites a b c d p q told within x y = elim (cases_lt a b) [
+one_unfit : (rack : Racked) (s : Scenario) (a b : ℕ) (c d : JournalCause) (p q : ℕ) → s.capacity < 2 ^ 64
+    → AreAllTold rack s.catalog.sites → b < s.catalog.sites
+    → IsFirstUnfit rack s a c p → IsFirstUnfit rack s b d q → (a ≡ b) × (c ≡ d) × (p ≡ q)
+one_unfit rack s a b c d p q small told within x y = elim (cases_lt a b) [
   | inl before ↦
-      absurd (of_both (rack.bytes a) (HasCause c p) HasNoRecord ⊥ (cause_has_record c p) (told a (omega (arith, before, within)))
-      x.unfit (y.others a before))
+      absurd (of_both (rack.bytes a) (HasCause (shape_of s) c p) (HasNoRecord (shape_of s)) ⊥
+      (cause_has_record (shape_of s) small c p) (told a (omega (arith, before, within))) x.unfit (y.others a before))
   | inr most ↦ elim (cases_lt b a) [
     | inl before ↦
-        absurd (of_both (rack.bytes b) (HasCause d q) HasNoRecord ⊥ (cause_has_record d q) (told b within) y.unfit
-        (x.others b before))
+        absurd (of_both (rack.bytes b) (HasCause (shape_of s) d q) (HasNoRecord (shape_of s)) ⊥
+        (cause_has_record (shape_of s) small d q) (told b within) y.unfit (x.others b before))
     | inr least ↦
         let same : a ≡ b = omega (arith, most, least) in
-        let both = of_both (rack.bytes b) (HasCause c p) (HasCause d q) ((c ≡ d) × (p ≡ q))
-        (λ bs u v. one_cause c d p q bs u v) (told b within)
-        (subst (λ (n : ℕ). Holds rack n (HasCause c p)) same x.unfit) y.unfit in
+        let both = of_both (rack.bytes b) (HasCause (shape_of s) c p) (HasCause (shape_of s) d q) ((c ≡ d) × (p ≡ q))
+        (λ bs u v. one_cause (shape_of s) small c d p q bs u v) (told b within)
+        (subst (λ (n : ℕ). Holds rack n (HasCause (shape_of s) c p)) same x.unfit) y.unfit in
         (same, both.0, both.1)
   ]
 ]
@@ -153,11 +170,12 @@ module _ (words : List (String Global)) (rack : Racked) (before after : Outside)
         (subst (λ (c : Command). IsPosed c before.left after.left t) (only other asked) posed) poses
 
     abbrev MayRun : Type 0
-    MayRun = ((ended.trails.items ≡ []) × IsUntouched rack) ⊎ Runs words rack before after ended.trails.items
+    MayRun = ((ended.trails.items ≡ []) × HasNotBegun words rack before after)
+        ⊎ Runs words rack before after ended.trails.items
 
     -- whether there was a run
     runs_if : (s : Scenario) → IsPosed command before.left after.left s → MayHaveRun rack s ended.trails.items → MayRun
-    runs_if s taken (inl none) = inl none
+    runs_if s taken (inl none) = inl (none.0, inr (spelled s (λ k t. IsUntouched rack t) taken none.1))
     runs_if s taken (inr run) = inr (runs s taken run)
 
     may_have_run : (s : Scenario) (site : ℕ) → IsRackFault rack command s ended.trails.items site → MayHaveRun rack s ended.trails.items
@@ -178,7 +196,7 @@ module _ (words : List (String Global)) (rack : Racked) (before after : Outside)
     Tells (Some (Rack site)) =
         OfScenario words before after (λ k s. (site < s.catalog.sites) × IsRackFault rack k s ended.trails.items site)
     Tells (Some (Journal site cause place)) =
-        OfScenario words before after (λ k s. (site < s.catalog.sites) × IsFirstUnfit rack site cause place
+        OfScenario words before after (λ k s. (site < s.catalog.sites) × IsFirstUnfit rack s site cause place
         × rack.each (IsFaultlessBefore site)) × (ended.trails.items ≡ [])
 
     -- so it is by the status
@@ -224,7 +242,7 @@ module _ (words : List (String Global)) (rack : Racked) (before after : Outside)
     -- where nothing fails, a scenario that the bytes spell is run
     completes : (fault : Option Fault) → ended.status ≡ status_of fault → Tells fault → (s : Scenario)
         → Poses command before.left s → AreAllTold rack s.catalog.sites
-        → ((i : ℕ) → i < s.catalog.sites → Holds rack i HasNoRecord)
+        → ((i : ℕ) → i < s.catalog.sites → Holds rack i (HasNoRecord (shape_of s)))
         → after.source_faults ≡ before.source_faults → after.sink_faults ≡ before.sink_faults → ¬ rack.failed
         → (ended.status ≡ 0) ⊎ (ended.status ≡ 5) ⊎ FailsEarly rack ended.trails.items
     completes None is told s poses known new source sink ok = inl is
@@ -243,17 +261,22 @@ module _ (words : List (String Global)) (rack : Racked) (before after : Outside)
         let same : is.scenario ≡ s =
         is_posed is.command is.scenario s is.asked is.posed poses in
         let within : site < s.catalog.sites = subst (λ (t : Scenario). site < t.catalog.sites) same is.holds.0 in
-        absurd (of_both (rack.bytes site) (HasCause cause place) HasNoRecord ⊥ (cause_has_record cause place)
-        (known site within) is.holds.1.unfit (new site within))
+        let why = subst (λ (t : Scenario). IsFirstUnfit rack t site cause place) same is.holds.1 in
+        absurd (of_both (rack.bytes site) (HasCause (shape_of s) cause place) (HasNoRecord (shape_of s)) ⊥
+        (cause_has_record (shape_of s) (poses_small command before.left s poses) cause place)
+        (known site within) why.unfit (new site within))
 
     -- what was run over holds no record, and so has no cause of a fault
     run_has_none : (s : Scenario) (site : ℕ) (cause : JournalCause) (place : ℕ)
         → Runs words rack before after ended.trails.items → Poses command before.left s → site < s.catalog.sites
-        → AreAllTold rack s.catalog.sites → IsFirstUnfit rack site cause place → ⊥
+        → AreAllTold rack s.catalog.sites → IsFirstUnfit rack s site cause place → ⊥
     run_has_none s site cause place run poses within known why =
         let same = is_posed run.command run.scenario s run.asked run.posed poses in
-        of_both (rack.bytes site) (HasCause cause place) HasNoRecord ⊥ (cause_has_record cause place) (known site within) why.unfit
-        (run.run.no_record_before site (subst (λ (t : Scenario). site < t.catalog.sites) (sym same) within))
+        let none = subst (λ (t : Scenario). (i : ℕ) → i < t.catalog.sites → Holds rack i (HasNoRecord (shape_of t))) same
+        run.run.no_record_before in
+        of_both (rack.bytes site) (HasCause (shape_of s) cause place) (HasNoRecord (shape_of s)) ⊥
+        (cause_has_record (shape_of s) (poses_small command before.left s poses) cause place) (known site within) why.unfit
+        (none site within)
 
     whole_runs : (Written : List ℕ → Type 0) → RunsWhole words rack before after ended.trails.items Written
         → Runs words rack before after ended.trails.items
@@ -269,7 +292,7 @@ module _ (words : List (String Global)) (rack : Racked) (before after : Outside)
     names : (fault : Option Fault) → ended.fault ≡ fault → ended.status ≡ status_of fault → Tells fault
         → (s : Scenario) (site : ℕ) (cause : JournalCause) (place : ℕ)
         → Poses command before.left s → site < s.catalog.sites → AreAllTold rack s.catalog.sites
-        → IsFirstUnfit rack site cause place → after.source_faults ≡ before.source_faults → rack.took s.catalog.sites
+        → IsFirstUnfit rack s site cause place → after.source_faults ≡ before.source_faults → rack.took s.catalog.sites
         → (ended.fault ≡ Some (Journal site cause place)) ⊎ (ended.status ≡ 5) ⊎ FailsEarly rack ended.trails.items
     names None named is told s site cause place poses within known why source ok =
         absurd (run_has_none s site cause place (whole_runs (Appends before.holds after.holds) told) poses within known why)
@@ -297,7 +320,10 @@ module _ (words : List (String Global)) (rack : Racked) (before after : Outside)
               poses within known why)
         ]))
     names (Some (Journal other c p)) named is told s site cause place poses within known why source ok =
-        let same = one_unfit rack s.catalog.sites other site c cause p place known within told.0.holds.1 why in
+        let is = told.0 in
+        let posed = is_posed is.command is.scenario s is.asked is.posed poses in
+        let same = one_unfit rack s other site c cause p place (poses_small command before.left s poses) known within
+        (subst (λ (t : Scenario). IsFirstUnfit rack t other c p) posed is.holds.1) why in
         inl (named
         ∙ (ap (λ n. Some (Journal n c p)) same.0
         ∙ (ap (λ k. Some (Journal site k p)) same.1 ∙ ap (λ n. Some (Journal site cause n)) same.2)))
@@ -366,60 +392,60 @@ module _ (words : List (String Global)) (rack : Racked) (before after : Outside)
         (λ not_done not_cut. ends.2) (runs_if s taken (may_have_run s site ends.1)) (never s taken)
     promise_run s (Some (Journal site cause place)) named taken ends =
         promise (Some (Journal site cause place)) named (
-          spelled s (λ k t. (site < t.catalog.sites) × IsFirstUnfit rack site cause place × rack.each (IsFaultlessBefore site)) taken
+          spelled s (λ k t. (site < t.catalog.sites) × IsFirstUnfit rack t site cause place × rack.each (IsFaultlessBefore site)) taken
               (ends.2, ends.3, ends.4),
           ends.0.0,
         ) (λ not_done not_cut. ends.1)
-        (inl ends.0) (never s taken)
+        (inl (ends.0.0, inr (spelled s (λ k t. IsUntouched rack t) taken ends.0.1))) (never s taken)
     promise_run s (Some (Usage text)) named taken ends = absurd ends
     promise_run s (Some (ScenarioFault place detail)) named taken ends = absurd ends
     promise_run s (Some Read) named taken ends = absurd ends
 
     -- no scenario was taken
-    taken_not : (fault : Fault) → IsRead command → ended.fault ≡ Some fault → ended.trails.items ≡ [] → IsUntouched rack
+    taken_not : (fault : Fault) → IsRead command → ended.fault ≡ Some fault → ended.trails.items ≡ [] → IsUntaken rack
         → after.holds ≡ before.holds
         → IsTakeFault before.left after.left before.source_faults after.source_faults fault
         → Promise words rack before after ended
-    taken_not (ScenarioFault place detail) reads named none untouched same why =
-        promise (Some (ScenarioFault place detail)) named (why, none, reads) (λ not_done not_cut. same) (inl (none, untouched))
+    taken_not (ScenarioFault place detail) reads named none untaken same why =
+        promise (Some (ScenarioFault place detail)) named (why, none, reads) (λ not_done not_cut. same) (inl (none, inl untaken))
         (λ k bytes other asked is_read left wrong source.
         inl (
           detail,
           named ∙ ap (λ (p : Place). Some (ScenarioFault p detail))
               (one_refused bytes place other (none_wrong before.left after.left bytes place why left) wrong),
         ))
-    taken_not Read reads named none untouched same why =
-        promise (Some Read) named (why, none) (λ not_done not_cut. same) (inl (none, untouched))
+    taken_not Read reads named none untaken same why =
+        promise (Some Read) named (why, none) (λ not_done not_cut. same) (inl (none, inl untaken))
         (λ k bytes place asked is_read left wrong source. absurd (omega (arith, why, source)))
-    taken_not Memory reads named none untouched same why =
-        promise (Some Memory) named tt (λ not_done not_cut. same) (inl (none, untouched))
+    taken_not Memory reads named none untaken same why =
+        promise (Some Memory) named tt (λ not_done not_cut. same) (inl (none, inl untaken))
         (λ k bytes place asked is_read left wrong source. inr (status ∙ ap status_of named))
-    taken_not (Usage text) reads named none untouched same why = absurd why
-    taken_not Write reads named none untouched same why = absurd why
-    taken_not (Rack site) reads named none untouched same why = absurd why
-    taken_not (Journal site cause place) reads named none untouched same why = absurd why
+    taken_not (Usage text) reads named none untaken same why = absurd why
+    taken_not Write reads named none untaken same why = absurd why
+    taken_not (Rack site) reads named none untaken same why = absurd why
+    taken_not (Journal site cause place) reads named none untaken same why = absurd why
 
     -- no scenario was posed
-    pub promise_fault : (fault : Fault) → ended.fault ≡ Some fault → ended.trails.items ≡ [] → IsUntouched rack
+    pub promise_fault : (fault : Fault) → ended.fault ≡ Some fault → ended.trails.items ≡ [] → IsUntaken rack
         → after.holds ≡ before.holds
         → IsPoseFault command before.left after.left before.source_faults after.source_faults fault
         → Promise words rack before after ended
-    promise_fault fault named none untouched same why = by command refl why
+    promise_fault fault named none untaken same why = by command refl why
       where
         by : (other : Command) → other ≡ command
             → IsPoseFault other before.left after.left before.source_faults after.source_faults fault
             → Promise words rack before after ended
-        by (Play trace disks) is why = taken_not fault (subst IsRead is tt) named none untouched same why
-        by (Run trace disks) is why = taken_not fault (subst IsRead is tt) named none untouched same why
+        by (Play trace disks) is why = taken_not fault (subst IsRead is tt) named none untaken same why
+        by (Run trace disks) is why = taken_not fault (subst IsRead is tt) named none untaken same why
         by (Load seed calls) is why =
-            promise (Some Memory) (named ∙ ap (λ f. Some f) why.0) tt (λ not_done not_cut. same) (inl (none, untouched))
+            promise (Some Memory) (named ∙ ap (λ f. Some f) why.0) tt (λ not_done not_cut. same) (inl (none, inl untaken))
             (λ k bytes place asked is_read left wrong source. inr (status ∙ ap status_of (named ∙ ap (λ f. Some f) why.0)))
         by (Say text) is why = absurd why
 
   -- ---- no run was begun
 
   -- there are no trails, and nothing was read
-  module _ (none : ended.trails.items ≡ []) (untouched : IsUntouched rack)
+  module _ (none : ended.trails.items ≡ []) (untaken : IsUntaken rack)
       (unread : (after.left ≡ before.left) × (after.source_faults ≡ before.source_faults)) where
     -- memory ran out before it was known what the words ask for
     pub promise_memory : ended.fault ≡ Some Memory → after.holds ≡ before.holds → Promise words rack before after ended
@@ -441,7 +467,7 @@ module _ (words : List (String Global)) (rack : Racked) (before after : Outside)
           given_back = back;
           unfailing = unfailing;
           silent = λ not_done not_cut. same;
-          legal_trails = inl (none, untouched);
+          legal_trails = inl (none, inl untaken);
           no_trails = inl none;
           complete = λ command s asked poses known new source sink ok. inr (inl is);
           refuses = λ k bytes place asked is_read left wrong source. inr is;
@@ -469,7 +495,7 @@ module _ (words : List (String Global)) (rack : Racked) (before after : Outside)
             given_back = back;
             unfailing = unfailing;
             silent = λ not_done not_cut. same;
-            legal_trails = inl (none, untouched);
+            legal_trails = inl (none, inl untaken);
             no_trails = inl none;
             complete = λ command s asked. absurd (nothing command asked);
             refuses = λ k bytes place asked. absurd (nothing k asked);
@@ -482,7 +508,7 @@ module _ (words : List (String Global)) (rack : Racked) (before after : Outside)
         text_written = written;
         unread = unread;
         no_trails = none;
-        untouched = untouched;
+        untaken = untaken;
       }
 
       -- a text is said
@@ -506,7 +532,7 @@ module _ (words : List (String Global)) (rack : Racked) (before after : Outside)
             given_back = back;
             unfailing = unfailing;
             silent = λ not_done not_cut. absurd (not_done is);
-            legal_trails = inl (none, untouched);
+            legal_trails = inl (none, inl untaken);
             no_trails = inl none;
             complete = λ command s asked. absurd (nothing command asked);
             refuses = λ k bytes place asked. absurd (nothing k asked);
@@ -529,7 +555,7 @@ module _ (words : List (String Global)) (rack : Racked) (before after : Outside)
             given_back = back;
             unfailing = unfailing;
             silent = λ not_done not_cut. absurd (not_cut is);
-            legal_trails = inl (none, untouched);
+            legal_trails = inl (none, inl untaken);
             no_trails = inl none;
             complete = λ command s asked. absurd (nothing command asked);
             refuses = λ k bytes place asked. absurd (nothing k asked);

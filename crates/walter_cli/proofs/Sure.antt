@@ -3,9 +3,11 @@
 use Rattle.std.proofs.Common.{◌≡◌, ℕ, ◌≤◌, List, [], ◌∷◌, ◌++◌, ◌⊎◌, length, Option, Some, None, ap, sym, ◌∙◌, refl, subst, arith, inl, inr}
 use Rattle.std.specs.Prelude.{All, Contains, IfSome, String}
 use Rattle.std.specs.Global.{Global}
-use Rattle.std.proofs.lemmas.List.Elements.{All-contains}
+use Rattle.std.proofs.lemmas.List.Elements.{All-contains, All-weaker}
+use Rattle.walter_disk.specs.Disks.{DiskState}
 use Rattle.walter_disk.specs.declared.disk.Disk.{Ghosts}
 use Rattle.walter_engine.specs.Begins.{HasNoRecord}
+use Rattle.walter_cluster.specs.Benches.{shape_of}
 use Rattle.walter_cluster.proofs.Changes.{there_is}
 use Rattle.walter_play.specs.Scripts.{all_arms}
 use Rattle.walter_scenario.specs.declared.scenario.Scenario.{Scenario}
@@ -15,12 +17,12 @@ use Rattle.walter_cli.specs.declared.ended.Fault.{Fault}
 use Rattle.walter_cli.specs.declared.ended.Fault.TheVariants.{Memory, Rack, Journal}
 use Rattle.walter_cli.specs.declared.ended.JournalCause.{JournalCause}
 use Rattle.walter_cli.specs.Assurance.{Assures, IsSureRun, IsSureReport}
-use Rattle.walter_cli.specs.Headline.{Outside, Says, IsDiskOfRun, Runs, RunsWhole, IsRackFault, FailsEarly, Promise}
-use Rattle.walter_cli.specs.Racks.{RackAt, Racked, OfADisk, IsTold, Holds, AreSo, AreFirst, IsHanded, IsUntouched, IsUnarmed, HasFailed, HasCause, racked}
+use Rattle.walter_cli.specs.Headline.{Outside, HasNotBegun, Says, IsDiskOfRun, Runs, RunsWhole, IsRackFault, FailsEarly, Promise}
+use Rattle.walter_cli.specs.Racks.{RackAt, Racked, OfADisk, IsTold, Holds, AreSo, AreFirst, IsHanded, IsMore, IsUntaken, IsUnarmed, HasFailed, HasCause, racked}
 use Rattle.walter_cli.specs.Statuses.{status_of}
 use Rattle.walter_words.specs.declared.asked.Command.{Command}
 use Rattle.walter_cli.proofs.Wholes.{posed_some}
-use Rattle.walter_cli.proofs.Causes.{cause_has_record}
+use Rattle.walter_cli.proofs.Causes.{none_has_cause}
 use Rattle.walter_cli.proofs.Driven.{driven_by_fewer}
 use Rattle.walter_cli.proofs.Giving.{of_both, numbered_has}
 
@@ -32,6 +34,23 @@ none_of_none {X = X} (Some told) all none is = by told (sym is.1 ∙ none)
     by : (xs : List X) → xs ++ is.0 ≡ [] → xs ≡ []
     by [] e = refl
     by (x ∷ xs) e = absurd (let l = ap length e in omega (arith, l))
+
+-- what is so of what may be there, by what is
+if_some : {X : Type 0} (P Q : X → Type 0) → ((x : X) → P x → Q x) → (o : Option X) → IfSome o P → IfSome o Q
+if_some P Q by None is = tt
+if_some P Q by (Some x) is = by x is
+
+-- what is so of each disk that was handed back
+each_weaker : {D : Type 0} (g : Ghosts D) (old new : Option (List (ℕ × D))) (P Q : ℕ → OfADisk)
+    → ((i : ℕ) (known : DiskState) (images : List ℕ → Type 0) → P i known images → Q i known images)
+    → IsMore old new (AreSo g P) → IsMore old new (AreSo g Q)
+each_weaker g None new P Q by is = tt
+each_weaker {D = D} g (Some old) new P Q by is = (
+  is.0,
+  is.1,
+  All-weaker (λ (it : ℕ × D). P it.0 (g.known it.1) (g.may_leave it.1)) (λ (it : ℕ × D). Q it.0 (g.known it.1) (g.may_leave it.1))
+      (λ it holds. by it.0 (g.known it.1) (g.may_leave it.1) holds) is.0 is.2,
+)
 
 -- a fault with status 7 names a cause, and one with status 6 a site
 journal_of : (fault : Option Fault) → status_of fault ≡ 7
@@ -47,7 +66,7 @@ module _ (words : List (String Global)) {D : Type 0} (g : Ghosts D) (first last 
     (ended : Ended)
     (promised : Promise words (racked g first last) before after ended)
     (told : (i : ℕ) → IsTold (racked g first last) i)
-    (empty : (i : ℕ) → Holds (racked g first last) i HasNoRecord)
+    (empty : (i : ℕ) → Holds (racked g first last) i (λ bytes. bytes ≡ []))
     (many : 16 ≤ first.unfailing)
     (none_handed : first.handed ≡ Some [])
     (sound : (more : List (ℕ × D)) → last.handed ≡ Some more
@@ -72,13 +91,19 @@ module _ (words : List (String Global)) {D : Type 0} (g : Ghosts D) (first last 
       All-contains (λ (it : ℕ × D). IsUnarmed (g.known it.1) (g.may_leave it.1) → (g.known it.1).faults ≡ 0) more (i, disk)
       (sound more is) there
 
+  -- where no run began, no disk is armed
+  unarmed_each : HasNotBegun words rack before after → rack.each (λ i. IsUnarmed)
+  unarmed_each (inl untaken) =
+      each_weaker g first.handed last.handed (λ i known images. ⊥) (λ i. IsUnarmed) (λ i known images none. absurd none) untaken.1
+  unarmed_each (inr untouched) = untouched.holds.unarmed
+
   -- no disk failed before the sites were up
   never : FailsEarly rack ended.trails.items → ⊥
   never early =
       let back = handed_is (λ more. (disk : D) × Contains more (early.1.0, disk) × HasFailed (g.known disk) (g.may_leave disk)) early.1.1 in
       elim promised.legal_trails [
-        | inl untouched ↦
-            let each = handed_is (AreSo g (λ i. IsUnarmed)) untouched.1.unarmed in
+        | inl none ↦
+            let each = handed_is (AreSo g (λ i. IsUnarmed)) (unarmed_each none.1) in
             let same : each.0 ≡ back.0 = (let e : Some each.0 ≡ Some back.0 = sym each.1 ∙ back.1 in cc) in
             let unarmed =
             All-contains (λ (it : ℕ × D). IsUnarmed (g.known it.1) (g.may_leave it.1)) back.0 (early.1.0, back.2.0)
@@ -140,6 +165,10 @@ module _ (words : List (String Global)) {D : Type 0} (g : Ghosts D) (first last 
     bytes_written = is.bytes_written;
   }
 
+  -- a disk of no bytes has no record
+  no_record : (s : Scenario) (i : ℕ) → Holds rack i (HasNoRecord (shape_of s))
+  no_record s i = if_some (λ bytes. bytes ≡ []) (HasNoRecord (shape_of s)) (λ bytes none. inl none) (rack.bytes i) (empty i)
+
   done : (Written : List ℕ → Type 0)
       → RunsWhole words rack before after ended.trails.items Written ⊎ Says words rack before after ended.trails.items Written
       → IsSureReport words rack before after ended.trails.items Written ⊎ Says words rack before after ended.trails.items Written
@@ -163,13 +192,14 @@ module _ (words : List (String Global)) {D : Type 0} (g : Ghosts D) (first last 
     never_unfit = λ h.
         let named = journal_of ended.fault (sym promised.status ∙ h) in
         let why = (promised.unfit named.0 named.1 named.2 named.3).holds.1 in
-        of_both (rack.bytes named.0) (HasCause named.1 named.2) HasNoRecord ⊥ (cause_has_record named.1 named.2) (told named.0)
-        why.unfit (empty named.0);
+        let shape = shape_of (promised.unfit named.0 named.1 named.2 named.3).scenario in
+        of_both (rack.bytes named.0) (HasCause shape named.1 named.2) (λ bytes. bytes ≡ []) ⊥
+        (none_has_cause shape named.1 named.2) (told named.0) why.unfit (empty named.0);
     given_back = promised.given_back;
     legal_trails = elim promised.legal_trails [ inl none ↦ inl none | inr runs ↦ inr (sure runs) ];
     silent = promised.silent;
     complete = λ command s asked poses source sink.
-        elim (promised.complete command s asked poses (λ i below. told i) (λ i below. empty i) source sink ok) [
+        elim (promised.complete command s asked poses (λ i below. told i) (λ i below. no_record s i) source sink ok) [
           | inl done ↦ inl done
           | inr other ↦ elim other [ inl memory ↦ inr memory | inr early ↦ absurd (never early) ]
         ];
@@ -178,9 +208,9 @@ module _ (words : List (String Global)) {D : Type 0} (g : Ghosts D) (first last 
 
 -- where there was no memory for the rack
 pub assured_early : (words : List (String Global)) (rack : Racked) (at : Outside) (ended : Ended) → rack.balanced
-    → IsUntouched rack → ended.status ≡ 5 → ended.fault ≡ Some Memory → ended.trails.items ≡ []
+    → IsUntaken rack → ended.status ≡ 5 → ended.fault ≡ Some Memory → ended.trails.items ≡ []
     → Assures words rack at at ended
-assured_early words rack at ended back untouched is named none = record {
+assured_early words rack at ended back untaken is named none = record {
   status = is ∙ ap status_of (sym named);
   written = λ h. absurd (omega (arith, is, h));
   usage = λ h. absurd (omega (arith, is, h));
@@ -192,7 +222,7 @@ assured_early words rack at ended back untouched is named none = record {
   never_unracked = λ h. omega (arith, is, h);
   never_unfit = λ h. omega (arith, is, h);
   given_back = back;
-  legal_trails = inl (none, untouched);
+  legal_trails = inl (none, inl untaken);
   silent = λ not_done not_cut. refl;
   complete = λ command s asked poses source sink. inr is;
   refuses = λ command bytes place asked reads left wrong source. inr is;

@@ -1,6 +1,6 @@
 -- What the trails of a bench are, cell by cell.
 use Rattle.std.proofs.Common.{◌≡◌, ℕ, ◌<◌, zero, suc, List, [], ◌∷◌, length, map, slice_get, get_or, reverse, true, Option, Some, None, option_map, refl, ap, sym, ◌∙◌, subst, arith}
-use Rattle.std.specs.Prelude.{All}
+use Rattle.std.specs.Prelude.{All, slice_index_or}
 use Rattle.std.proofs.lemmas.List.{length-map}
 use Rattle.std.proofs.lemmas.List.Elements.{All-weaker, All-push}
 use Rattle.std.proofs.lemmas.Option.{slice_get-map, slice_get-get_or, get_or_from_slice_get}
@@ -14,7 +14,7 @@ use Rattle.walter_machine.specs.Comings.{IsSized}
 use Rattle.walter_cell.specs.Lines.{is_here}
 use Rattle.walter_cell.specs.Nodes.{IsSound}
 use Rattle.walter_cell.proofs.Taken.{if_call}
-use Rattle.walter_cluster.specs.Benches.{BenchValue, IsOf, IsBench, IsToldAt, AreAllConnected, AtEach, trails_of, is_site, is_home, layout_of}
+use Rattle.walter_cluster.specs.Benches.{BenchValue, IsLaidFor, IsOf, IsBench, IsToldAt, AreAllConnected, AtEach, trails_of, is_site, is_home}
 use Rattle.walter_cluster.proofs.Changes.{there_is}
 use Rattle.walter_cluster.proofs.Keeping.{home_within}
 use Rattle.walter_conn.proofs.Standings.{calls_of as calls_told}
@@ -31,7 +31,7 @@ use Rattle.walter_rules.specs.declared.entry.Entry.{Entry}
 use Rattle.walter_rules.specs.declared.outcome.Outcome.{Outcome}
 use Rattle.walter_rules.specs.declared.outcome.Outcome.TheVariants.{Replied, Taken, Passed, Failed, Full, Memory as IsMemory, Down as IsDown, Refused as IsRefused}
 use Rattle.walter_rules.specs.Knowledge.{site_at}
-use Rattle.walter_rules.specs.Layouts.{Layout}
+use Rattle.walter_rules.specs.Layouts.{Layout, one_area}
 use Rattle.walter_rules.specs.Merges.{trail_of, AreLinked}
 use Rattle.walter_rules.specs.Kinds.{IfCall}
 use Rattle.walter_rules.specs.Trails.{AreRight, IsRightTrail, opening}
@@ -42,6 +42,7 @@ use Rattle.walter_site.specs.Members.{IsShortOutcome}
 use Rattle.walter_trail.specs.Calls.{calls_of}
 use Rattle.walter_cli.specs.Headline.{IsOfSite, AreCallsOf, AreTold, trail_at}
 use Rattle.walter_cli.specs.Promises.{AreKept, KeepAllPromises}
+use Rattle.walter_cli.specs.Racks.{Racked, Holds}
 
 -- ---- lists
 
@@ -175,34 +176,47 @@ module _ {D : Type 0} (g : Ghosts D) (t : Scenario) (bench : BenchValue D) (of :
         );
   }
 
+  -- how the journal of a site is laid out
+  abbrev layouts : SiteId → Layout
+  layouts i = slice_index_or (map (λ (c : CellValue D). c.node.layout) bench.cells) i.0 (one_area 0)
+
+  layout_is : (i : ℕ) (cell : CellValue D) → slice_get bench.cells i ≡ Some cell → layouts (site_at i) ≡ cell.node.layout
+  layout_is i cell at = field_at (λ (c : CellValue D). c.node.layout) bench.cells i cell (one_area 0) at
+
   -- a trail that is right of its node, is right of its site
   right_of : (i : ℕ) (cell : CellValue D) → slice_get bench.cells i ≡ Some cell
       → IsRightTrail cell.node.catalog cell.node.layout cell.node.site cell.node.trail
-      → IsRightTrail t.catalog (layout_of t) (site_at i) cell.node.trail
+      → IsRightTrail t.catalog (layouts (site_at i)) (site_at i) cell.node.trail
   right_of i cell at right =
-      subst (λ (k : Catalog). IsRightTrail k (layout_of t) (site_at i) cell.node.trail) (of.catalogs i cell at)
-      (subst (λ (l : Layout). IsRightTrail cell.node.catalog l (site_at i) cell.node.trail) (of.layouts i cell at)
+      subst (λ (k : Catalog). IsRightTrail k (layouts (site_at i)) (site_at i) cell.node.trail) (of.catalogs i cell at)
+      (subst (λ (l : Layout). IsRightTrail cell.node.catalog l (site_at i) cell.node.trail) (sym (layout_is i cell at))
       (subst (λ (n : SiteId). IsRightTrail cell.node.catalog cell.node.layout n cell.node.trail) (is.cells i cell at).site right))
 
   -- where all disks are told
-  pub told_trails : ((i : ℕ) → i < t.catalog.sites → IsToldAt g i bench) → IsWhole t.catalog → AreLinked trails → AreTold t trails
-  told_trails told whole linked =
-      let are : AreRightTrails t.catalog (λ k. layout_of t) trails = record {
+  pub told_trails : (rack : Racked)
+      → ((i : ℕ) (cell : CellValue D) → slice_get bench.cells i ≡ Some cell → Holds rack i (λ bytes. IsLaidFor t bytes cell.node.layout))
+      → ((i : ℕ) → i < t.catalog.sites → IsToldAt g i bench) → IsWhole t.catalog → AreLinked trails → AreTold rack t trails
+  told_trails rack laid told whole linked =
+      let are : AreRightTrails t.catalog layouts trails = record {
         one_each = one_each;
         right = λ i below.
             let there = cell_at i.0 below in
-            subst (λ (es : List Entry). IsRightTrail t.catalog (layout_of t) i es) (sym (trail_is i.0 there.0 there.1))
+            subst (λ (es : List Entry). IsRightTrail t.catalog (layouts i) i es) (sym (trail_is i.0 there.0 there.1))
             (right_of i.0 there.0 there.1 ((sound i.0 there.0 there.1).0.right (told i.0 below there.0 there.1)));
         linked = linked;
       } in
       record {
+        layouts = layouts;
+        laid = λ i below.
+            let there = cell_at i below in
+            subst (λ (l : Layout). Holds rack i (λ bytes. IsLaidFor t bytes l)) (sym (layout_is i there.0 there.1)) (laid i there.0 there.1);
         right_trails = are;
-        legal_history = trails_legal t.catalog (λ k. layout_of t) whole trails are;
-        commits_once = trails_once t.catalog (λ k. layout_of t) whole trails are;
-        got_right = trails_got t.catalog (λ k. layout_of t) whole trails are;
-        aborts_named = trails_named t.catalog (λ k. layout_of t) whole trails are;
-        marks_true = trails_marks t.catalog (λ k. layout_of t) whole trails are;
-        promises_kept = promises_kept t.catalog (λ k. layout_of t) trails are;
+        legal_history = trails_legal t.catalog layouts whole trails are;
+        commits_once = trails_once t.catalog layouts whole trails are;
+        got_right = trails_got t.catalog layouts whole trails are;
+        aborts_named = trails_named t.catalog layouts whole trails are;
+        marks_true = trails_marks t.catalog layouts whole trails are;
+        promises_kept = promises_kept t.catalog layouts trails are;
       }
 
   pub frames : HaveFrames trails

@@ -1,5 +1,5 @@
 -- The scenario that is run can be played.
-use Rattle.std.proofs.Common.{◌≡◌, ◌<◌, ◌+◌, ◌-◌, ◌^◌, ℕ, List, Option, Some, None, length, slice_get, refl, ap, sym, ◌∙◌, subst, arith}
+use Rattle.std.proofs.Common.{◌≡◌, ◌<◌, ◌+◌, ◌-◌, ◌^◌, ℕ, List, Option, Some, None, length, slice_get, refl, ap, sym, ◌∙◌, subst, arith, inl}
 use Rattle.std.proofs.lemmas.List.FromFn.{get_or-map-range_with_len, length-map-range_with_len}
 use Rattle.std.proofs.lemmas.Option.{slice_get-get_or, slice_get_within}
 use Rattle.std.specs.List.{range_with_len}
@@ -7,7 +7,7 @@ use Rattle.std.specs.Prelude.{All, map}
 use Rattle.std.proofs.Math.Nat.{mod-lt}
 use Rattle.std.proofs.lemmas.List.Elements.{All-nil}
 use Rattle.walter_scenario.proofs.Sent.{all_sites}
-use Rattle.walter_scenario.specs.Parts.{IsArm, IsCapacity, IsStep, IsThreads}
+use Rattle.walter_scenario.specs.Parts.{IsArm, IsAreas, IsCapacity, IsStep, IsThreads}
 use Rattle.walter_scenario.specs.declared.scenario.Arm.{Arm}
 use Rattle.walter_base.specs.Catalogs.{AreRight, Item, falls, nowhere, too_many}
 use Rattle.walter_linked.proofs.Catalogs.{right_whole}
@@ -15,7 +15,7 @@ use Rattle.walter_linked.specs.Catalogs.{IsWhole}
 use Rattle.walter_make.specs.Calls.{made_calls}
 use Rattle.walter_make.specs.Made.{made, made_catalog, made_client, made_container}
 use Rattle.walter_scenario.specs.declared.scenario.Scenario.{Scenario}
-use Rattle.walter_scenario.specs.Scenarios.{GivesArms, GivesCapacity, GivesThreads, IsReading}
+use Rattle.walter_scenario.specs.Scenarios.{GivesAreas, GivesArms, GivesCapacity, GivesThreads, IsReading}
 use Rattle.walter_words.specs.declared.asked.Command.{Command}
 use Rattle.walter_words.specs.declared.asked.Command.TheVariants.{Play, Run, Load, Say}
 use Rattle.walter_cli.specs.Ending.{HasStepsFor, IsPlayable}
@@ -32,7 +32,8 @@ by_key Gives Holds none some (Some v) gives = some v gives
 pub reading_playable : (bytes : List ℕ) (s : Scenario) → IsReading bytes s → IsPlayable s
 reading_playable bytes s reading =
     let threads = reading.has_arms.has_threads in
-    let capacity = threads.has_ticks.has_link.has_capacity in
+    let areas = threads.has_ticks.has_link.has_areas in
+    let capacity = areas.has_capacity in
     let clients = capacity.has_clients in
     let containers = clients.has_containers in
     let tolerated = containers.has_tolerated in
@@ -47,6 +48,7 @@ reading_playable bytes s reading =
           (λ v is. is.1) _ threads.given;
       capacity = by_key (λ o. GivesCapacity o s.capacity) (IsCapacity s.capacity) (λ is. (omega (arith, is), omega (arith, is)))
           (λ v is. is.1) _ capacity.given;
+      areas = by_key (λ o. GivesAreas o s.areas s.capacity) (IsAreas s.areas s.capacity) (λ is. inl is) (λ v is. is.1) _ areas.given;
       arms = by_key (λ o. GivesArms s.catalog.sites o s.arms) (All (IsArm s.catalog.sites) s.arms)
           (λ is. subst (λ (xs : List Arm). All (IsArm s.catalog.sites) xs) (sym is) (All-nil (IsArm s.catalog.sites)))
           (λ v is. is.2.within) _ reading.has_arms.given;
@@ -64,6 +66,7 @@ playable_but_for_steps s is = record {
   clients = is.clients;
   threads = is.threads;
   capacity = is.capacity;
+  areas = is.areas;
   arms = is.arms;
   steps = All-nil (IsStep s.catalog.sites (length s.clients));
 }

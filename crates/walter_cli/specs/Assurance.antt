@@ -15,8 +15,8 @@ use Rattle.walter_scenario.specs.Scenarios.{IsRefusedAt}
 use Rattle.walter_stream.specs.Streams.{Appends, AppendsFront}
 use Rattle.walter_cli.specs.declared.ended.Ended.{Ended}
 use Rattle.walter_cli.specs.declared.ended.Fault.TheVariants as fault
-use Rattle.walter_cli.specs.Headline.{Outside, Says, AreCallsOf, AreTold, ArmsOfSites, IsDiskOfRun, IsDiskOfWhole, IsDrivenBy, trail_at}
-use Rattle.walter_cli.specs.Racks.{Racked, IsUntouched, rack_at, racked}
+use Rattle.walter_cli.specs.Headline.{Outside, Says, AreCallsOf, AreTold, ArmsOfSites, HasNotBegun, IsDiskOfRun, IsDiskOfWhole, IsDrivenBy, trail_at}
+use Rattle.walter_cli.specs.Racks.{Racked, rack_at, racked}
 use Rattle.walter_cli.specs.Statuses.{status_of}
 use Rattle.walter_cli.specs.Sources.{HasNoReading}
 use Rattle.walter_cli.specs.Words.{Asks, AskForNone, IsForText, IsPosed, IsRead, IsWrong, Poses, written_by}
@@ -37,7 +37,7 @@ pub record IsSureRun (words : List (String Global)) (rack : Racked) (before afte
   pub scenario : Scenario
   pub posed : IsPosed command before.left after.left scenario
   pub whose_calls : AreCallsOf scenario.clients trails
-  pub tells : AreTold scenario trails
+  pub tells : AreTold rack scenario trails
   pub unarmed : (i : ℕ) → i < scenario.catalog.sites → all_arms scenario i ≡ []
       → count_by (λ e. is_faulty e.came.outcome) (trail_at trails i) ≡ 0
   pub disks : rack.all scenario.catalog.sites (λ i. IsDiskOfRun rack scenario trails i)
@@ -75,9 +75,9 @@ pub record Assures (words : List (String Global)) (rack : Racked) (before after 
   pub never_unracked : ended.status ≢ 6
   pub never_unfit : ended.status ≢ 7
   -- whatever the status, each disk that was taken was handed back, and the trails are those of a run; or there are none,
-  -- and then no run has begun on the disks. But for 0 and 4 nothing is written
+  -- and no run began. But for 0 and 4 nothing is written
   pub given_back : rack.balanced
-  pub legal_trails : ((ended.trails.items ≡ []) × IsUntouched rack)
+  pub legal_trails : ((ended.trails.items ≡ []) × HasNotBegun words rack before after)
       ⊎ IsSureRun words rack before after ended.trails.items
   pub silent : ended.status ≢ 0 → ended.status ≢ 4 → after.holds ≡ before.holds
   -- where source and sink don't fail, the scenario that is posed is run, and bytes to be read that spell none are refused

@@ -1,6 +1,7 @@
 -- What the parts of a call of the program come to.
 use Rattle.std.specs.Prelude.{◌≡◌, ◌<◌, ◌≤◌, ◌⊎◌, ◌^◌, ℕ, All, List, [], ◌++◌, Option, Some, None, IsSome, IfSome, length, slice_get}
-use Rattle.walter_cluster.specs.Benches.{BenchValue, IsOf, IsToldAt, AreAllConnected, AreMet, arms_at}
+use Rattle.walter_cell.specs.Cells.{CellValue}
+use Rattle.walter_cluster.specs.Benches.{BenchValue, IsLaidFor, IsOf, IsToldAt, AreAllConnected, AreMet, arms_at, shape_of}
 use Rattle.walter_cluster.specs.Moments.{IsFirst, Moment, moment_of}
 use Rattle.walter_disk.specs.declared.disk.Disk.{Ghosts}
 use Rattle.walter_engine.specs.Begins.{HasNoRecord}
@@ -10,7 +11,7 @@ use Rattle.walter_rules.specs.declared.entry.Entry.{Entry}
 use Rattle.walter_base.specs.Vectors.{most_sites}
 use Rattle.walter_linked.specs.Catalogs.{IsWhole}
 use Rattle.walter_play.specs.Scripts.{AreArmed, EndsPlay, arms_of}
-use Rattle.walter_scenario.specs.Parts.{IsArm, IsStep, IsCapacity, IsThreads}
+use Rattle.walter_scenario.specs.Parts.{IsArm, IsStep, IsAreas, IsCapacity, IsThreads}
 use Rattle.walter_scenario.specs.declared.scenario.Client.{Client}
 use Rattle.walter_scenario.specs.declared.scenario.Scenario.{Scenario}
 use Rattle.walter_stream.specs.Streams.{Appends, AppendsFront}
@@ -41,7 +42,7 @@ IsPoseFault (Load seed calls) before after faults faults' fault = (fault ≡ Mem
 IsPoseFault (Say text) before after faults faults' fault = ⊥
 
 -- a scenario that can be played: its sites are few, and fewer may be lost; its containers, clients, arms and steps are of
--- these sites; its clients can be numbered, and its threads made; and a journal has place for an epoch
+-- these sites; its clients can be numbered, and its threads made; and a journal has place for an epoch in each of its areas
 pub record IsPlayable (s : Scenario) : Type 0 where
   pub some : 0 < s.catalog.sites
   pub few : s.catalog.sites ≤ most_sites
@@ -51,6 +52,7 @@ pub record IsPlayable (s : Scenario) : Type 0 where
   pub clients : length s.clients < 2 ^ 32
   pub threads : IsThreads s.threads
   pub capacity : IsCapacity s.capacity
+  pub areas : IsAreas s.areas s.capacity
   pub arms : All (IsArm s.catalog.sites) s.arms
   pub steps : All (IsStep s.catalog.sites (length s.clients)) s.steps
 
@@ -87,7 +89,9 @@ pub record IsBuilt {D : Type 0} (g : Ghosts D) (before after : RackAt D) (t : Sc
   pub disks : List D
   pub many : length disks ≡ t.catalog.sites
   pub taken : AreTaken g before after disks
-  pub no_records : (i : ℕ) (disk : D) → slice_get disks i ≡ Some disk → IfSome (g.known disk).reads HasNoRecord
+  pub no_records : (i : ℕ) (disk : D) → slice_get disks i ≡ Some disk → IfSome (g.known disk).reads (HasNoRecord (shape_of t))
+  pub laid : (i : ℕ) (disk : D) (c : CellValue D) → slice_get disks i ≡ Some disk → slice_get bench.cells i ≡ Some c
+      → IfSome (g.known disk).reads (λ bytes. IsLaidFor t bytes c.node.layout)
   pub of : IsOf t bench
   pub told : (i : ℕ) (disk : D) → slice_get disks i ≡ Some disk → IsSome (g.known disk).reads → IsToldAt g i bench
   pub connected : AreAllConnected t bench
@@ -96,25 +100,25 @@ pub record IsBuilt {D : Type 0} (g : Ghosts D) (before after : RackAt D) (t : Sc
   pub arms : (i : ℕ) (disk : D) → slice_get disks i ≡ Some disk
       → arms_at g bench.cells i ≡ (g.known disk).arms
 
--- why so many sites were not built over the disks of a rack: one could not be taken, or failed, or it has what no site can
+-- why the sites of a scenario were not built over the disks of a rack: one could not be taken, or failed, or it has what no site can
 -- begin with; or memory ran out
-abbrev pub IsUnbuilt : Racked → (sites : ℕ) → Fault → Type 0
-IsUnbuilt rack sites Memory = Unit {0}
-IsUnbuilt rack sites (Rack site) = (site < sites) × (FailsToTake rack site ⊎ FailsToLoad rack sites site)
-IsUnbuilt rack sites (Journal site cause place) =
-    (site < sites) × IsFirstUnfit rack site cause place × rack.each (IsFaultlessBefore site)
-IsUnbuilt rack sites fault = ⊥
+abbrev pub IsUnbuilt : Racked → Scenario → Fault → Type 0
+IsUnbuilt rack s Memory = Unit {0}
+IsUnbuilt rack s (Rack site) = (site < s.catalog.sites) × (FailsToTake rack site ⊎ FailsToLoad rack s site)
+IsUnbuilt rack s (Journal site cause place) =
+    (site < s.catalog.sites) × IsFirstUnfit rack s site cause place × rack.each (IsFaultlessBefore site)
+IsUnbuilt rack s fault = ⊥
 
 -- the rack is as no run has begun, and what was taken of it was handed back, and given back but for what it lost by a fault
-pub record EndsEarly (rack : Racked) (sites : ℕ) (fault : Fault) : Type 0 where
-  pub why : IsUnbuilt rack sites fault
-  pub untouched : IsUntouched rack
+pub record EndsEarly (rack : Racked) (s : Scenario) (fault : Fault) : Type 0 where
+  pub why : IsUnbuilt rack s fault
+  pub untouched : IsUntouched rack s
   pub given_back : rack.balanced
   pub unfailing : rack.unfailing 16 → ¬ rack.failed
 
 -- there are no trails, and no run began; or they are those of a run
 abbrev pub MayHaveRun : Racked → Scenario → List (List Entry) → Type 0
-MayHaveRun rack s trails = ((trails ≡ []) × IsUntouched rack) ⊎ IsRun rack s trails
+MayHaveRun rack s trails = ((trails ≡ []) × IsUntouched rack s) ⊎ IsRun rack s trails
 
 -- it is a whole run, and all disks were given back
 abbrev pub IsWholeBack : Racked → Command → Scenario → List (List Entry) → Type 0
@@ -133,8 +137,8 @@ EndsRun rack command s holds holds' faults faults' trails (Some Memory) =
 EndsRun rack command s holds holds' faults faults' trails (Some (Rack site)) =
     (site < s.catalog.sites) × IsRackFault rack command s trails site × (holds' ≡ holds)
 EndsRun rack command s holds holds' faults faults' trails (Some (Journal site cause place)) =
-    ((trails ≡ []) × IsUntouched rack) × (holds' ≡ holds) × (site < s.catalog.sites)
-    × IsFirstUnfit rack site cause place × rack.each (IsFaultlessBefore site)
+    ((trails ≡ []) × IsUntouched rack s) × (holds' ≡ holds) × (site < s.catalog.sites)
+    × IsFirstUnfit rack s site cause place × rack.each (IsFaultlessBefore site)
 EndsRun rack command s holds holds' faults faults' trails (Some (Usage text)) = ⊥
 EndsRun rack command s holds holds' faults faults' trails (Some (ScenarioFault place detail)) = ⊥
 EndsRun rack command s holds holds' faults faults' trails (Some Read) = ⊥

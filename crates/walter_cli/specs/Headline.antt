@@ -3,6 +3,7 @@ use Rattle.std.specs.Prelude.{◌≡◌, ◌≢◌, ◌<◌, ◌≤◌, ◌⊎�
 use Rattle.std.specs.Global.{Global}
 use Rattle.walter_base.specs.declared.names.SiteId.{SiteId}
 use Rattle.walter_cell.specs.Entries.{HaveRisingStamps}
+use Rattle.walter_cluster.specs.Benches.{IsLaidFor, shape_of}
 use Rattle.walter_machine.specs.Comings.{is_faulty}
 use Rattle.walter_conn.specs.Sequences.{AreCalls}
 use Rattle.walter_disk.specs.Disks.{DiskState}
@@ -17,6 +18,7 @@ use Rattle.walter_refinement.specs.Spelled.{psi_of}
 use Rattle.walter_rules.specs.declared.entry.Entry.{Entry}
 use Rattle.walter_rules.specs.declared.event.Event.{Event}
 use Rattle.walter_rules.specs.Knowledge.{site_at}
+use Rattle.walter_rules.specs.Layouts.{Layout}
 use Rattle.walter_rules.specs.Merges.{Named, merge, trail_of, AreLinked}
 use Rattle.walter_rules.specs.Kinds.{IfCall}
 use Rattle.walter_rules.specs.Trails.{opening, standing}
@@ -34,7 +36,7 @@ use Rattle.walter_cli.specs.declared.ended.Ended.{Ended}
 use Rattle.walter_cli.specs.declared.ended.Fault.TheVariants as fault
 use Rattle.walter_cli.specs.declared.ended.JournalCause.{JournalCause}
 use Rattle.walter_cli.specs.Promises.{KeepAllPromises}
-use Rattle.walter_cli.specs.Racks.{Racked, IsTold, AreAllTold, Holds, IsUntouched, HasFailed, HasCause, IsFaultlessBefore, FailsToTake, FailsToLoad, FailsToGive}
+use Rattle.walter_cli.specs.Racks.{Racked, IsTold, AreAllTold, Holds, IsUntaken, IsUntouched, HasFailed, HasCause, IsFaultlessBefore, FailsToTake, FailsToLoad, FailsToGive}
 use Rattle.walter_cli.specs.Statuses.{status_of}
 use Rattle.walter_cli.specs.Sources.{HasNoReading}
 use Rattle.walter_cli.specs.Words.{Asks, AskForNone, IsForText, IsPosed, IsRead, IsWrong, Poses, written_by}
@@ -42,7 +44,6 @@ use Rattle.walter_work.specs.Driven.{IsDriven}
 use Rattle.walter_words.specs.Words.{AsksForText}
 use Rattle.walter_words.specs.declared.asked.Command.{Command}
 use Rattle.walter_words.specs.declared.asked.Command.TheVariants.{Play, Run, Load, Say}
-use Rattle.walter_cluster.specs.Benches.{layout_of}
 
 -- ---- the outside
 
@@ -81,33 +82,39 @@ pub record AreCallsOf (clients : List Client) (trails : List (List Entry)) : Typ
   pub front : (number : ℕ) (client : Client) → slice_get clients number ≡ Some client
       → (rest : List ℕ) × AreCalls client.bytes (calls_of number (trail_of trails client.site)) rest
 
--- each crash leaves the records of this trail on the disk of its site; while the site is down with one in flight, these
--- with or without it
-abbrev pub LeavesRecords : Scenario → ℕ → List Entry → (List ℕ → Type 0) → Type 0
-LeavesRecords s i trail images = (image : List ℕ) → images image
-    → MayHaveRecords (standing s.catalog (site_at i) (reverse trail)).records
-    (standing s.catalog (site_at i) (reverse trail)).flight image
+-- the disk of a site has a journal that is laid out as it was, or as the scenario says, in which each crash leaves the
+-- records of this trail; while the site is down with one in flight, these with or without it
+pub record LeavesRecords (rack : Racked) (s : Scenario) (i : ℕ) (trail : List Entry) (images : List ℕ → Type 0)
+    : Type 0 where
+  pub layout : Layout
+  pub laid : Holds rack i (λ bytes. IsLaidFor s bytes layout)
+  pub records : (image : List ℕ) → images image
+      → MayHaveRecords layout (standing s.catalog (site_at i) (reverse trail)).records
+      (standing s.catalog (site_at i) (reverse trail)).flight image
 
--- what the trails tell of sites whose disks tell what they hold: they are right and linked, and spell a legal history,
+-- what the trails tell of sites whose disks tell what they hold: they are right, for journals that are laid out as they
+-- were, or as the scenario says, and linked, and spell a legal history,
 -- in which no transaction commits twice; what a site has of another stands there as that one's own commit, by its
 -- number; each abort was asked for or names its conflict; at each entry what is committed of another site, or told to be
 -- durable or visible, is so; and nothing is given up at a site that is up, but for memory, the disk and its capacity
-pub record AreTold (s : Scenario) (trails : List (List Entry)) : Type 0 where
-  pub right_trails : AreRightTrails s.catalog (λ k. layout_of s) trails
+pub record AreTold (rack : Racked) (s : Scenario) (trails : List (List Entry)) : Type 0 where
+  pub layouts : SiteId → Layout
+  pub laid : (i : ℕ) → i < s.catalog.sites → Holds rack i (λ bytes. IsLaidFor s bytes (layouts (site_at i)))
+  pub right_trails : AreRightTrails s.catalog layouts trails
   pub legal_history : IsLegal (psi_of s.catalog (merge trails))
   pub commits_once : StandsOnce s.catalog (reverse (merge trails))
   pub got_right : AreGotRight s.catalog (reverse (merge trails))
   pub aborts_named : AreNamed s.catalog (reverse (merge trails))
   pub marks_true : (newer older : List Named) (n : Named) → reverse (merge trails) ≡ newer ++ n ∷ older
       → AreMarksTrue s.catalog older n
-  pub promises_kept : KeepAllPromises s.catalog (λ k. layout_of s) trails
+  pub promises_kept : KeepAllPromises s.catalog layouts trails
 
 -- the disk of a site behind a run: it failed at least as often as the site's trail says; where it is told, a crash leaves
 -- the trail's records; and its arms are the first ones of the scenario's for the site
 pub record IsDiskOfRun (rack : Racked) (s : Scenario) (trails : List (List Entry)) (i : ℕ) (known : DiskState)
     (images : List ℕ → Type 0) : Type 0 where
   pub faults : count_by (λ e. is_faulty e.came.outcome) (trail_at trails i) ≤ known.faults
-  pub records : IsTold rack i → LeavesRecords s i (trail_at trails i) images
+  pub records : IsTold rack i → LeavesRecords rack s i (trail_at trails i) images
   pub first_arms : IfSome known.arms (λ arms. (more : List (ℕ × ℕ)) × (all_arms s i ≡ arms ++ more))
 
 -- the arms of the disk of each site, where it tells them
@@ -131,8 +138,8 @@ pub record IsRun (rack : Racked) (s : Scenario) (trails : List (List Entry)) : T
   pub stamps_rise : (i : ℕ) → i < s.catalog.sites → HaveRisingStamps (reverse (trail_at trails i))
   pub whose_calls : AreCallsOf s.clients trails
   pub linked : AreLinked trails
-  pub no_record_before : (i : ℕ) → i < s.catalog.sites → Holds rack i HasNoRecord
-  pub told : AreAllTold rack s.catalog.sites → AreTold s trails
+  pub no_record_before : (i : ℕ) → i < s.catalog.sites → Holds rack i (HasNoRecord (shape_of s))
+  pub told : AreAllTold rack s.catalog.sites → AreTold rack s trails
   pub disks : rack.handed s.catalog.sites (λ i. IsDiskOfRun rack s trails i)
   pub given_back : rack.failed ⊎ rack.all s.catalog.sites (λ i. IsDiskOfRun rack s trails i)
 
@@ -181,7 +188,7 @@ pub record Says (words : List (String Global)) (rack : Racked) (before after : O
   pub text_written : Written text
   pub unread : (after.left ≡ before.left) × (after.source_faults ≡ before.source_faults)
   pub no_trails : trails ≡ []
-  pub untouched : IsUntouched rack
+  pub untaken : IsUntaken rack
 
 -- the words ask for a run of a scenario that is posed, of which it is so
 pub record OfScenario (words : List (String Global)) (before after : Outside) (P : Command → Scenario → Type 0)
@@ -192,17 +199,21 @@ pub record OfScenario (words : List (String Global)) (before after : Outside) (P
   pub posed : IsPosed command before.left after.left scenario
   pub holds : P command scenario
 
+-- no run began: no disk was taken, or the disks are as no run of the scenario that is posed has begun on them
+abbrev pub HasNotBegun : List (String Global) → Racked → (before after : Outside) → Type 0
+HasNotBegun words rack before after = IsUntaken rack ⊎ OfScenario words before after (λ command s. IsUntouched rack s)
+
 -- Why a site's disk ended a call: no run began, since it could not be taken, or failed in its first loading, as that of no
 -- site before it did; or a run was driven to its end, and it is the first disk that could not be given back.
 abbrev pub IsRackFault : Racked → Command → Scenario → List (List Entry) → ℕ → Type 0
 IsRackFault rack command s trails site =
-    ((trails ≡ []) × IsUntouched rack × (FailsToTake rack site ⊎ FailsToLoad rack s.catalog.sites site))
+    ((trails ≡ []) × IsUntouched rack s × (FailsToTake rack site ⊎ FailsToLoad rack s site))
     ⊎ ((arms : ArmsOfSites) × IsWholeRun rack command s trails arms × FailsToGive rack site)
 
--- the first of the sites whose disk has bytes with which no new site can begin, and why
-pub record IsFirstUnfit (rack : Racked) (site : ℕ) (cause : JournalCause) (place : ℕ) : Type 0 where
-  pub unfit : Holds rack site (HasCause cause place)
-  pub others : (i : ℕ) → i < site → Holds rack i HasNoRecord
+-- the first of a scenario's sites whose disk has bytes with which no new site can begin, and why
+pub record IsFirstUnfit (rack : Racked) (s : Scenario) (site : ℕ) (cause : JournalCause) (place : ℕ) : Type 0 where
+  pub unfit : Holds rack site (HasCause (shape_of s) cause place)
+  pub others : (i : ℕ) → i < site → Holds rack i (HasNoRecord (shape_of s))
 
 -- no run began, and a disk that was handed back failed in its first loading
 abbrev pub FailsEarly : Racked → List (List Entry) → Type 0
@@ -241,13 +252,13 @@ pub record Promise (words : List (String Global)) (rack : Racked) (before after 
   -- 7: the disk of the site that is named, one of the scenario's, has what no new site can begin with, where it tells what
   -- it has; those of the sites before it have no record, and have not failed
   pub unfit : (site : ℕ) (cause : JournalCause) (place : ℕ) → ended.fault ≡ Some (fault.Journal site cause place)
-      → OfScenario words before after (λ command s. (site < s.catalog.sites) × IsFirstUnfit rack site cause place
+      → OfScenario words before after (λ command s. (site < s.catalog.sites) × IsFirstUnfit rack s site cause place
       × rack.each (IsFaultlessBefore site))
   -- and exactly then, where all disks are told and were taken, the source doesn't fail, and no disk does before all sites
   -- are up
   pub unfit_named : (command : Command) (s : Scenario) (site : ℕ) (cause : JournalCause) (place : ℕ) → Asks command words
       → Poses command before.left s → site < s.catalog.sites → AreAllTold rack s.catalog.sites
-      → IsFirstUnfit rack site cause place → after.source_faults ≡ before.source_faults → rack.took s.catalog.sites
+      → IsFirstUnfit rack s site cause place → after.source_faults ≡ before.source_faults → rack.took s.catalog.sites
       → (ended.fault ≡ Some (fault.Journal site cause place)) ⊎ (ended.status ≡ 5) ⊎ FailsEarly rack ended.trails.items
   -- whatever the status, each disk that was taken was handed back, and given back but for one at most for each fault of
   -- the rack; and one of which two calls for each site don't fail doesn't
@@ -255,16 +266,16 @@ pub record Promise (words : List (String Global)) (rack : Racked) (before after 
   pub unfailing : rack.unfailing 16 → ¬ rack.failed
   -- but for 0 and 4 nothing is written
   pub silent : ended.status ≢ 0 → ended.status ≢ 4 → after.holds ≡ before.holds
-  -- whatever the status, the trails answered are those of a run; or there are none, and then the disks are as no run has
-  -- begun on them
-  pub legal_trails : ((ended.trails.items ≡ []) × IsUntouched rack) ⊎ Runs words rack before after ended.trails.items
+  -- whatever the status, the trails answered are those of a run; or there are none, and no run began
+  pub legal_trails : ((ended.trails.items ≡ []) × HasNotBegun words rack before after)
+      ⊎ Runs words rack before after ended.trails.items
   -- but for 0, 4, 5 and 6 there are none
   pub no_trails : (ended.trails.items ≡ []) ⊎ (ended.status ≡ 0) ⊎ (ended.status ≡ 4) ⊎ (ended.status ≡ 5)
       ⊎ (ended.status ≡ 6)
   -- where nothing fails and all disks tell that they have no record, the scenario that is posed is run, and the status is 0;
   -- where the source's bytes are to be read and are wrong at a place it is 2 with this place; or it is 5 for want of memory
   pub complete : (command : Command) (s : Scenario) → Asks command words → Poses command before.left s
-      → AreAllTold rack s.catalog.sites → ((i : ℕ) → i < s.catalog.sites → Holds rack i HasNoRecord)
+      → AreAllTold rack s.catalog.sites → ((i : ℕ) → i < s.catalog.sites → Holds rack i (HasNoRecord (shape_of s)))
       → after.source_faults ≡ before.source_faults → after.sink_faults ≡ before.sink_faults → ¬ rack.failed
       → (ended.status ≡ 0) ⊎ (ended.status ≡ 5) ⊎ FailsEarly rack ended.trails.items
   pub refuses : (command : Command) (bytes : List ℕ) (place : Place) → Asks command words → IsRead command

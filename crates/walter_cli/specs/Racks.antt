@@ -1,10 +1,12 @@
 -- What is known of a rack before a run and after it, and why no site can begin with a disk.
 use Rattle.std.specs.Prelude.{◌≡◌, ◌≢◌, ◌+◌, ◌<◌, ◌≤◌, ℕ, List, [], ◌∷◌, ◌++◌, length, All, Contains, Option, None, Some, IfSome, IsSome}
+use Rattle.walter_checkpoint.specs.Areas.{Shape, HasContent, IsForeign, IsDamaged}
+use Rattle.walter_cluster.specs.Benches.{shape_of}
 use Rattle.walter_disk.specs.Disks.{DiskState}
 use Rattle.walter_disk.specs.declared.disk.Disk.{Ghosts}
 use Rattle.walter_disk.specs.declared.rack.Rack.{Ghosts as RackGhosts}
 use Rattle.walter_engine.specs.Begins.{MayHaveBegun, HasNoRecord}
-use Rattle.walter_journal.specs.Layout.{HasContent, IsForeign, IsDamaged}
+use Rattle.walter_scenario.specs.declared.scenario.Scenario.{Scenario}
 use Rattle.walter_cli.specs.declared.ended.JournalCause.{JournalCause}
 use Rattle.walter_cli.specs.declared.ended.JournalCause.TheVariants.{Foreign, Damaged, Used}
 
@@ -152,11 +154,11 @@ pub record FailsToTake (rack : Racked) (site : ℕ) : Type 0 where
 
 -- The disks of all sites were taken, so many, and that of this site failed in its first loading. Those of the sites
 -- before it did not, and have no record, where that is told.
-pub record FailsToLoad (rack : Racked) (sites site : ℕ) : Type 0 where
-  pub all : rack.took sites
+pub record FailsToLoad (rack : Racked) (s : Scenario) (site : ℕ) : Type 0 where
+  pub all : rack.took s.catalog.sites
   pub failed : rack.one site HasFailed
   pub before : rack.each (IsFaultlessBefore site)
-  pub no_record : (i : ℕ) → i < site → Holds rack i HasNoRecord
+  pub no_record : (i : ℕ) → i < site → Holds rack i (HasNoRecord (shape_of s))
 
 -- the disk of this site is the first that was not given back, since the rack failed
 pub record FailsToGive (rack : Racked) (site : ℕ) : Type 0 where
@@ -164,16 +166,21 @@ pub record FailsToGive (rack : Racked) (site : ℕ) : Type 0 where
   pub lacks : rack.lacks site
   pub before : (i : ℕ) → i < site → rack.has i
 
--- where no run began, each disk that was handed back has no arm, and a crash leaves on it what it held; where it held no
--- record, at most the first bytes of a journal, or the first epoch
-pub record IsUntouched (rack : Racked) : Type 0 where
+-- no disk was taken, and none handed back
+abbrev pub IsUntaken : Racked → Type 0
+IsUntaken rack = rack.took 0 × rack.each (λ i known images. ⊥)
+
+-- where no run of a scenario began, each disk that was handed back has no arm, and a crash leaves on it what it held;
+-- where it held no record, at most the first bytes of a journal, or the first epoch
+pub record IsUntouched (rack : Racked) (s : Scenario) : Type 0 where
   pub unarmed : rack.each (λ i. IsUnarmed)
   pub kept : rack.each (λ i known images. Holds rack i (λ bytes.
-      (image : List ℕ) → images image → MayHaveBegun bytes image))
+      (image : List ℕ) → images image → MayHaveBegun (shape_of s) s.areas bytes image))
 
 -- why no new site can begin with these bytes, and at which place that stands: they are no journal, or a damaged one, or
--- one with records, behind the first gate
-abbrev pub HasCause : JournalCause → ℕ → List ℕ → Type 0
-HasCause Foreign place bytes = (place ≡ 0) × IsForeign bytes × (bytes ≢ [])
-HasCause (Damaged claimed) place bytes = IsDamaged bytes place claimed
-HasCause Used place bytes = (place ≡ 8) × ((bodies : List (List ℕ)) × HasContent bytes bodies × (bodies ≢ []))
+-- one with records, behind its header
+abbrev pub HasCause : Shape → JournalCause → ℕ → List ℕ → Type 0
+HasCause shape Foreign place bytes = (place ≡ 0) × IsForeign shape bytes × (bytes ≢ [])
+HasCause shape (Damaged claimed) place bytes = IsDamaged shape bytes place claimed
+HasCause shape Used place bytes =
+    (place ≡ 8) × ((bodies : List (List ℕ)) × HasContent shape bytes bodies × (bodies ≢ []))

@@ -7,15 +7,22 @@ ghost use Rattle.walter_cli.specs.Racks.{rack_at, racked};
 use crate::ended::Fault;
 use std::alloc::Global;
 use walter_disk::Rack;
+use walter_scenario::Scenario;
 
-/// Takes the disks of so many sites, in order. Where one can't be taken, those that were are given back.
-pub fn take_all<R: Rack>(alloc: Global, rack: &mut R, sites: u8) -> Result<Vec<R::D>, Fault>
-    requires few { sites ≤ most_sites }
-    ensures taken { IfOk result (λ disks. (length disks.items ≡ sites) × AreTaken R.D.Disk
+/// Takes the disks of a scenario's sites, in order. Where one can't be taken, those that were are given back.
+pub fn take_all<R: Rack>(
+    alloc: Global,
+    rack: &mut R,
+    scenario: &Scenario,
+) -> Result<Vec<R::D>, Fault>
+    requires few { scenario.now.catalog.sites ≤ most_sites }
+    ensures taken { IfOk result (λ disks. (length disks.items ≡ scenario.now.catalog.sites) × AreTaken R.D.Disk
         (rack_at R.Rack rack.old) (rack_at R.Rack rack.new)
         disks.items) }
-    ensures fault { IfErr result (EndsEarly (racked R.D.Disk (rack_at R.Rack rack.old) (rack_at R.Rack rack.new)) sites) }
+    ensures fault { IfErr result (EndsEarly (racked R.D.Disk (rack_at R.Rack rack.old) (rack_at R.Rack rack.new))
+        scenario.now) }
 {
+    let sites = scenario.catalog.sites;
     let Ok(mut disks) = Vec::with_capacity(alloc, usize::from(sites)) else {
         return Err(Fault::Memory);
     };

@@ -10,7 +10,7 @@ use walter_trail::Trail;
 pub enum JournalCause {
     #[error("it has no journal")]
     Foreign,
-    #[error("its journal is damaged, since it claims a length of {length} behind a gate")]
+    #[error("its journal is damaged, since it claims a length of {length}")]
     Damaged { length: u32 },
     #[error("its journal has records")]
     Used,

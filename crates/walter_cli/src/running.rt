@@ -1,15 +1,12 @@
-ghost use Rattle.std.specs.Prelude.{◌≡◌, ◌≤◌, ◌<◌, ◌^◌, ◌++◌, length, All, IfOk, OnOk, IfErr};
+ghost use Rattle.std.specs.Prelude.{◌≡◌, ◌≤◌, ◌<◌, ◌++◌, length, IfOk, OnOk, IfErr};
 ghost use Rattle.walter_base.specs.Vectors.{most_sites};
 ghost use Rattle.walter_cluster.specs.Benches.{AreAllConnected, AreMet, EachKeeps, IsOf, IsToldAt};
 ghost use Rattle.walter_cluster.specs.Moments.{IsFirst, moment_of};
-ghost use Rattle.walter_linked.specs.Catalogs.{IsWhole};
 ghost use Rattle.walter_play.specs.Scripts.{ArmsMore, arms_of};
 ghost use Rattle.walter_report.specs.Reports.{HaveFrames};
 ghost use Rattle.walter_report.specs.Traces.{HaveSpellings};
-ghost use Rattle.walter_scenario.specs.declared.scenario.Client.{Client};
-ghost use Rattle.walter_scenario.specs.Parts.{IsArm, IsStep, IsCapacity, IsThreads};
 ghost use Rattle.walter_stream.specs.Streams.{Appends};
-ghost use Rattle.walter_cli.specs.Ending.{Drives, EndsRun, EndsEarly, HasStepsFor, IsBuilt, IsWriteFault, fault_of};
+ghost use Rattle.walter_cli.specs.Ending.{Drives, EndsRun, EndsEarly, HasStepsFor, IsBuilt, IsPlayable, IsWriteFault, fault_of};
 ghost use Rattle.walter_cli.specs.Racks.{rack_at, racked};
 ghost use Rattle.walter_cli.specs.Statuses.{status_of};
 ghost use Rattle.walter_cli.specs.Texts.{text_of};
@@ -43,16 +40,7 @@ pub fn run<X: Threads + Wait + Sync, K: Sink, R: Rack>(
     rack: &mut R,
 ) -> Ended
     requires running { ¬ IsText command.now }
-    requires some { 0 < scenario.now.catalog.sites }
-    requires few { scenario.now.catalog.sites ≤ most_sites }
-    requires fewer { scenario.now.catalog.tolerated < scenario.now.catalog.sites }
-    requires whole { IsWhole scenario.now.catalog }
-    requires within { All (λ (client : Client). client.site.0 < scenario.now.catalog.sites) scenario.now.clients }
-    requires clients { length scenario.now.clients < 2 ^ 32 }
-    requires threads { IsThreads scenario.now.threads }
-    requires capacity { IsCapacity scenario.now.capacity }
-    requires arms { All (IsArm scenario.now.catalog.sites) scenario.now.arms }
-    requires steps { All (IsStep scenario.now.catalog.sites (length scenario.now.clients)) scenario.now.steps }
+    requires playable { IsPlayable scenario.now }
     requires driven { HasStepsFor command.now scenario.now }
     ensures status { result.status ≡ status_of result.fault }
     ensures given_back { (racked R.D.Disk (rack_at R.Rack rack.old) (rack_at R.Rack rack.new)).balanced }
@@ -90,16 +78,11 @@ fn drive<X: Threads + Wait + Sync, D: Disk + Drop + Send>(
     scenario: &Scenario,
 ) -> (Bench<D, BytesSource, NullSink>, Mem<()>)
     requires running { ¬ IsText command.now }
+    requires playable { IsPlayable scenario.now }
     requires of { IsOf scenario.now bench }
-    requires few { scenario.now.catalog.sites ≤ most_sites }
-    requires within { All (λ (client : Client). client.site.0 < scenario.now.catalog.sites) scenario.now.clients }
     requires connected { AreAllConnected scenario.now bench }
     requires met { AreMet bench }
     requires first { IsFirst scenario.now.catalog.sites (moment_of D.Disk bench.cells) }
-    requires clients { length scenario.now.clients < 2 ^ 32 }
-    requires threads { IsThreads scenario.now.threads }
-    requires arms { All (IsArm scenario.now.catalog.sites) scenario.now.arms }
-    requires steps { All (IsStep scenario.now.catalog.sites (length scenario.now.clients)) scenario.now.steps }
     requires driven { HasStepsFor command.now scenario.now }
     ensures cells { EachKeeps D.Disk bench.cells result.0.cells }
     ensures homes { result.0.homes ≡ bench.homes }
@@ -122,19 +105,15 @@ fn build_over<R: Rack>(
     scenario: &Scenario,
     rack: &mut R,
 ) -> Result<Bench<R::D, BytesSource, NullSink>, Fault>
-    requires some { 0 < scenario.now.catalog.sites }
-    requires few { scenario.now.catalog.sites ≤ most_sites }
-    requires fewer { scenario.now.catalog.tolerated < scenario.now.catalog.sites }
-    requires within { All (λ (client : Client). client.site.0 < scenario.now.catalog.sites) scenario.now.clients }
-    requires capacity { IsCapacity scenario.now.capacity }
+    requires playable { IsPlayable scenario.now }
     ensures built { IfOk result (IsBuilt R.D.Disk (rack_at R.Rack rack.old) (rack_at R.Rack rack.new) scenario.now) }
     ensures unbuilt { IfErr result (EndsEarly (racked R.D.Disk (rack_at R.Rack rack.old) (rack_at R.Rack rack.new))
-        scenario.now.catalog.sites) }
+        scenario.now) }
 {
     let Ok(lines) = open_lines(alloc, scenario.clients.as_slice()) else {
         return Err(Fault::Memory);
     };
-    let disks = take_all(alloc, rack, scenario.catalog.sites)?;
+    let disks = take_all(alloc, rack, scenario)?;
     match build(alloc, scenario, disks, lines) {
         Ok(bench) => Ok(bench),
         Err(Unbuilt { disks, site, why }) => {

@@ -1,18 +1,19 @@
 use Rattle.std.proofs.Common.{◌≡◌, ◌+◌, ◌<◌, ◌∷◌, [], ℕ, List, length, None, refl, ap, sym, ◌∙◌, subst, arith, inl}
 use Rattle.std.specs.Prelude.{IfSome}
 use Rattle.std.proofs.lemmas.List.{length-append}
+use Rattle.walter_cluster.proofs.Opened.{untouched}
 use Rattle.walter_cli.specs.Disks.{AreTaken}
 use Rattle.walter_cli.specs.Racks.{RackAt, rack_at}
 use Rattle.walter_cli.specs.declared.ended.Fault.TheVariants.{Memory, Rack}
 use Rattle.walter_cli.proofs.Early.{ends_before, ends_early}
 use Rattle.walter_cli.proofs.Giving.{IsReturned, took_all, lacks_behind}
-use Rattle.walter_cli.proofs.Racking.{taken_more, left_alone, err_never}
+use Rattle.walter_cli.proofs.Racking.{taken_more, err_never}
 use Rattle.walter_cli.proofs.disks.take_all.Goals as goal
 
 pub returns-in_default-clause-fault : goal.returns-in_default-clause-fault
 returns-in_default-clause-fault g c =
     let a : RackAt g.row.R-D.Denot = rack_at g.R.Rack c.args.rack.now in
-    ends_before g.R.D.Disk a a c.args.sites Memory refl refl refl (omega arith) (λ many. refl) tt
+    ends_before g.R.D.Disk a a c.args.scenario.now Memory refl refl refl (omega arith) (λ many. refl) tt
 
 pub returns-in-Err-clause-fault : goal.returns-in-Err-clause-fault
 returns-in-Err-clause-fault g c =
@@ -36,7 +37,8 @@ returns-in-Err-clause-fault g c =
       long = refl;
       gives = gives;
     } in
-    ends_early g.R.D.Disk a d e disks disks is_back c.args.sites (Rack c.loop-site.site) (λ i disk at. (disk, at, left_alone g.R.D.Disk disk))
+    ends_early g.R.D.Disk c.args.scenario.now a d e disks disks is_back (Rack c.loop-site.site)
+    (λ i disk at. (disk, at, untouched g.R.D.Disk c.args.scenario.now disk))
     (λ many.
     let long = is.long in
     let within = c.loop-site-test.true in

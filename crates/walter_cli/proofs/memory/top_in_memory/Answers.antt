@@ -1,11 +1,10 @@
-use Rattle.std.proofs.Common.{◌≡◌, ℕ, List, [], ◌≤◌, Some, refl, sym, ap, inl, subst, arith}
+use Rattle.std.proofs.Common.{◌≡◌, ℕ, List, [], ◌≤◌, Some, refl, sym, ap, subst, arith}
 use Rattle.std.specs.Prelude.{All, String}
 use Rattle.std.specs.Global.{Global}
 use Rattle.walter_disk_memory.specs.MemoryDisks.{MemoryState, FailsOnlyIfArmed}
 use Rattle.walter_disk_memory.specs.MemoryRacks.{RackState, rack_of, unfailing_of}
 use Rattle.walter_disk_memory.specs.contracts.memory_disk.MemoryDiskDisk.TheImpl.{ghosts as disk_ghosts}
 use Rattle.walter_disk_memory.specs.contracts.memory_rack.MemoryRackRack.TheImpl.{ghosts as rack_ghosts}
-use Rattle.walter_engine.specs.Begins.{HasNoRecord}
 use Rattle.walter_cli.specs.Assurance.{Assures, in_memory}
 use Rattle.walter_cli.specs.Headline.{Outside}
 use Rattle.walter_cli.specs.declared.ended.Ended.{Ended}
@@ -40,7 +39,7 @@ returns g c =
     let last = at c.top-ended.new.rack in
     of_made c.args.words.now c.in-Ok.rack c.top-ended.new.rack _ _ c.top-ended.result is
     (assured c.args.words.now disk_ghosts (at c.in-Ok.rack) last _ _ c.top-ended.result c.top-ended.ensures (λ i. refl)
-    (λ i. subst (λ (r : RackState). Holds (racked disk_ghosts (at r) last) i HasNoRecord) (sym is) (inl refl))
+    (λ i. subst (λ (r : RackState). Holds (racked disk_ghosts (at r) last) i (λ bytes. bytes ≡ [])) (sym is) refl)
     (subst (λ (r : RackState). 16 ≤ unfailing_of r) (sym is) (omega arith))
     (ap (λ (r : RackState). Some r.handed) is)
     (λ more same. sound c.top-ended.new.rack.handed more c.given_unarmed_never_failed.ensures.handed same))

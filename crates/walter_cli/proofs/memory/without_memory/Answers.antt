@@ -4,8 +4,8 @@ use Rattle.walter_disk_memory.specs.MemoryRacks.{RackState, rack_of}
 use Rattle.walter_disk_memory.specs.contracts.memory_disk.MemoryDiskDisk.TheImpl.{ghosts as disk_ghosts}
 use Rattle.walter_disk_memory.specs.contracts.memory_rack.MemoryRackRack.TheImpl.{ghosts as rack_ghosts}
 use Rattle.walter_cli.specs.Assurance.{in_memory}
-use Rattle.walter_cli.specs.Racks.{RackAt, IsUntouched, rack_at}
-use Rattle.walter_cli.proofs.Early.{untouched_before}
+use Rattle.walter_cli.specs.Racks.{RackAt, IsUntaken, rack_at}
+use Rattle.walter_cli.proofs.Early.{untaken_before}
 use Rattle.walter_cli.proofs.Giving.{none_balances}
 use Rattle.walter_cli.proofs.Sure.{assured_early}
 use Rattle.walter_cli.proofs.memory.without_memory.Goals as goal
@@ -20,13 +20,13 @@ new_balanced rack is =
     subst (λ (r : RackState). (in_memory r).balanced) (sym is)
     (none_balances disk_ghosts (at (rack_of [] 16)) (at (rack_of [] 0)) refl refl refl (omega arith))
 
-new_untouched : (rack : RackState) → rack ≡ rack_of [] 0 → IsUntouched (in_memory rack)
-new_untouched rack is =
-    subst (λ (r : RackState). IsUntouched (in_memory r)) (sym is)
-    (untouched_before disk_ghosts (at (rack_of [] 16)) (at (rack_of [] 0)) refl)
+new_untaken : (rack : RackState) → rack ≡ rack_of [] 0 → IsUntaken (in_memory rack)
+new_untaken rack is =
+    subst (λ (r : RackState). IsUntaken (in_memory r)) (sym is)
+    (untaken_before disk_ghosts (at (rack_of [] 16)) (at (rack_of [] 0)) refl refl)
 
 pub returns-clause-assured : goal.returns-clause-assured
 returns-clause-assured c = λ words outside.
     let is = c.new.ensures.rack in
-    assured_early words _ outside c.early.result (new_balanced _ is) (new_untouched _ is) c.early.ensures.status
+    assured_early words _ outside c.early.result (new_balanced _ is) (new_untaken _ is) c.early.ensures.status
     c.early.ensures.fault c.early.ensures.trails

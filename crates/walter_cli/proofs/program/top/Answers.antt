@@ -5,7 +5,7 @@ use Rattle.walter_words.specs.Words.{AsksFor, IsText}
 use Rattle.walter_cli.specs.Racks.{RackAt, rack_at, racked}
 use Rattle.walter_cli.specs.Statuses.{status_of}
 use Rattle.walter_cli.specs.Words.{Asks, AskForNone}
-use Rattle.walter_cli.proofs.Early.{untouched_before}
+use Rattle.walter_cli.proofs.Early.{untaken_before}
 use Rattle.walter_cli.proofs.Giving.{none_balances, one_count}
 use Rattle.walter_cli.proofs.Runs.{promise_run, promise_fault, promise_text, promise_usage}
 use Rattle.walter_cli.proofs.Wholes.{posed_steps}
@@ -20,7 +20,7 @@ returns-in-Err-Usage g c =
     let nothing : AskForNone c.args.words.now = λ command asks. let e = c.in-Err-Usage.ensures.given command asks in absurd cc in
     promise_usage c.args.words.now (racked g.R.D.Disk at at) _ _ c.early.result (ended.status ∙ ap status_of (sym ended.fault))
     (none_balances g.R.D.Disk at at refl refl refl (omega arith)) (λ many rose. omega (arith, rose)) (one_count g.R.D.Disk at at)
-    ended.trails (untouched_before g.R.D.Disk at at refl) (refl, refl) nothing c.in-Err-Usage.text ended.fault
+    ended.trails (untaken_before g.R.D.Disk at at refl refl) (refl, refl) nothing c.in-Err-Usage.text ended.fault
     (rw is at c.in-Err-Usage.ensures.follows) (λ asks. let e = c.in-Err-Usage.ensures.said asks in absurd cc) refl
 
 -- a help, or the version
@@ -32,7 +32,7 @@ returns-in-Ok-Say g c =
     λ command asks. let none = subst (λ (k : Command). AsksFor k (map string_bytes c.args.words.now)) (sym (c.in-Ok-Say.ensures.given command asks)) asks in rw is at none in
     promise_text c.args.words.now (racked g.R.D.Disk at at) _ _ c.say.result c.say.ensures.status
     (none_balances g.R.D.Disk at at refl refl refl (omega arith)) (λ many rose. omega (arith, rose)) (one_count g.R.D.Disk at at)
-    c.say.ensures.trails (untouched_before g.R.D.Disk at at refl) (refl, refl) nothing (string_bytes c.in-Ok-Say.text) c.say.result.fault refl
+    c.say.ensures.trails (untaken_before g.R.D.Disk at at refl refl) (refl, refl) nothing (string_bytes c.in-Ok-Say.text) c.say.result.fault refl
     (rw is at c.in-Ok-Say.ensures.follows) c.say.ensures.ends
 
 -- threads are given no steps
@@ -60,4 +60,4 @@ returns g c =
     promise_fault c.args.words.now (racked g.R.D.Disk at at) _ _ c.early-in-Err.result
     (ended.status ∙ ap status_of (sym ended.fault)) (none_balances g.R.D.Disk at at refl refl refl (omega arith))
     (λ many rose. omega (arith, rose)) (one_count g.R.D.Disk at at) c.in-Ok.command line (λ other asks. sym (c.in-Ok.ensures.given other asks))
-    c.in-Err.fault ended.fault ended.trails (untouched_before g.R.D.Disk at at refl) refl c.in-Err.ensures.fault
+    c.in-Err.fault ended.fault ended.trails (untaken_before g.R.D.Disk at at refl refl) refl c.in-Err.ensures.fault

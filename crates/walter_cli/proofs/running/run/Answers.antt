@@ -46,7 +46,7 @@ module _ (g : Over) (c : After-give_all-given g) where
       let closed = c.close-trails.ensures in
       run_is g.R.D.Disk c.args.scenario.now before mid after c.in-Ok.bench c.drive-bench.result.0
       c.close-trails.result.disks.items trails built driven.cells driven.homes closed.bench closed.sound driven.arms
-      closed.gives.trails closed.gives.disks closed.linked c.give_all-given.ensures.given c.requires.whole
+      closed.gives.trails closed.gives.disks closed.linked c.give_all-given.ensures.given c.requires.playable.whole
 
   -- where it was driven to its end, it is a whole run
   whole : is_err c.drive-bench.result.1 ≡ false
@@ -57,7 +57,7 @@ module _ (g : Over) (c : After-give_all-given g) where
       whole_is g.R.D.Disk c.args.scenario.now before mid after c.in-Ok.bench c.drive-bench.result.0
       c.close-trails.result.disks.items trails built driven.cells driven.homes closed.bench closed.sound driven.arms
       closed.gives.trails closed.gives.disks closed.linked c.give_all-given.ensures.given c.args.command.now
-      (ok_part c.drive-bench.result.1 _ driven.driven to_end) c.requires.whole
+      (ok_part c.drive-bench.result.1 _ driven.driven to_end) c.requires.playable.whole
 
   -- where the rack didn't fail either, all disks were given back
   whole_back : is_err c.drive-bench.result.1 ≡ false → g.R.Rack.faults c.give_all-given.new.rack ≡ g.R.Rack.faults c.build_over.new.rack
@@ -86,7 +86,7 @@ module _ (g : Over) (c : After-give_all-given g) where
 
   sure : 16 ≤ before.unfailing → after.faults ≡ before.faults
   sure enough =
-      let few = c.requires.few in
+      let few = c.requires.playable.few in
       let many = built.many in
       sure_back g.R.D.Disk before mid after built.disks c.close-trails.result.disks.items built.taken
       c.give_all-given.ensures.given came_back.long (omega (arith, few, many)) enough

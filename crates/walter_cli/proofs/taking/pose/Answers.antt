@@ -1,7 +1,7 @@
-use Rattle.std.proofs.Common.{◌<◌, ◌^◌, length, sym, subst, arith}
+use Rattle.std.proofs.Common.{◌<◌, ◌^◌, length, refl, sym, subst, arith, inl}
 use Rattle.std.proofs.lemmas.Result.{IfOk-weaker}
 use Rattle.walter_linked.specs.Catalogs.{IsWhole}
-use Rattle.walter_scenario.specs.Parts.{IsCapacity, IsThreads}
+use Rattle.walter_scenario.specs.Parts.{IsAreas, IsCapacity, IsThreads}
 use Rattle.walter_scenario.specs.declared.scenario.Scenario.{Scenario}
 use Rattle.walter_cli.specs.Ending.{IsPlayable}
 use Rattle.walter_cli.proofs.Wholes.{made_few, made_whole, playable_but_for_steps, reading_playable}
@@ -34,6 +34,7 @@ returns-in-Ok-clause-playable g c =
       clients = subst (λ (t : Scenario). length t.clients < 2 ^ 32) (sym made.made) (made_few c.in-Load.seed c.in-Load.calls);
       threads = subst (λ (t : Scenario). IsThreads t.threads) (sym made.made) (omega arith, omega arith);
       capacity = subst (λ (t : Scenario). IsCapacity t.capacity) (sym made.made) (omega arith, omega arith);
+      areas = subst (λ (t : Scenario). IsAreas t.areas t.capacity) (sym made.made) (inl refl);
       arms = made.arms;
       steps = made.steps;
     }
