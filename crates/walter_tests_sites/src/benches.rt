@@ -42,8 +42,11 @@ fn bench_of(
 {
     let catalog = &scenario.catalog;
     let clients = scenario.clients.as_slice().len();
-    if catalog.sites != 2 || catalog.tolerated > 1 || clients != 2 || scenario.capacity < 19 {
+    if catalog.sites != 2 || catalog.tolerated > 1 || clients != 2 {
         bail!("the scenario hasn't two sites with a client each");
+    }
+    if scenario.capacity < 19 || scenario.areas != 1 {
+        bail!("a journal hasn't one area with place for an epoch");
     }
     let disks = vec![in alloc; MemoryDisk::new(alloc), MemoryDisk::new(alloc)]?;
     let lines = vec![in alloc; first, second]?;
