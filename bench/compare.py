@@ -1,13 +1,14 @@
 #!/usr/bin/env python3
 """Plays random scenarios, and compares each report and trace with those of the plain model in model.py.
 
-They are those of generator.py: of one site and of several, some by a link, one of thirteen made to come to a limit; with
---several those of two to eight sites alone, as many as are asked for. Says how often each reply, reason of a refusal, outcome,
-record and packet was met, what the pumps did and the link chose, and each limit, with a number at it and with one above it;
-and which of these were not met. Then some made scenarios of the command `load` are played, and their summaries compared. Ends
-with status 1 where a scenario differs, and prints its seed and the first line that does. With --unproved the program is run
-without any proof, by `rt try`, on all scenarios together but those of `load`, and what this says of each that differs is
-printed; with --model the model plays alone, and nothing is compared.
+They are those of generator.py: of one site and of several, over journals of one area and of two, some by a link, one of
+fourteen made to come to a limit; with --several those of two to eight sites alone, as many as are asked for. Where the program
+refuses the key `areas`, and with --one-area, none has it. Says how often each reply, reason of a refusal, outcome, record and
+packet was met, what the pumps did and the link chose, what restarts did with areas, and each limit, with a number at it and
+with one above it; and which of these were not met. Then some made scenarios of the command `load` are played, and their
+summaries compared. Ends with status 1 where a scenario differs, and prints its seed and the first line that does. With
+--unproved the program is run without any proof, by `rt try`, on all scenarios together but those of `load`, and what this says
+of each that differs is printed; with --model the model plays alone, and nothing is compared.
 """
 
 import argparse
@@ -60,8 +61,9 @@ AT_LIMITS = {
 }
 LIMITS = [f"{what} {number:,}" for what, limit in AT_LIMITS.items() for number in (limit, limit + 1)]
 ALL = SITES + REPLIES + OUTCOMES + RECORDED + VOTES + RULES + DELIVERIES + PUMPS + LINKS + LIMITS
-# What restarts do with journals of two areas, where these are asked for.
-PACKS = ["pack into A", "pack into B", "pack fails"]
+# What the model counts of journals where there are areas: what restarts do with two, and records for which there is no place.
+AREAS = ["load fails", "pack into A", "pack into B", "pack fails before the switch byte", "pack fails at the switch byte",
+         "full behind a pack", "full, of 1 area", "full, of 2 areas"]
 # How many calls a made scenario may have.
 CALLS = [0, 1, 2, 10, 100, 500, 1000, 2000, 4000]
 
@@ -121,13 +123,22 @@ def first_difference(played, expected):
     return next((pair for pair in pairs if pair[0] != pair[1]), ("", "the one is longer"))
 
 
+EMPTY = {"sites": 1, "f": 0, "containers": [], "clients": [], "steps": []}
+NO_AREAS = "the program refuses the key areas: no scenario has it"
+
+
 def built():
     """The program, once `walter`, which proves and builds it first where that isn't done yet, has played a scenario."""
-    empty = json.dumps({"sites": 1, "f": 0, "containers": [], "clients": [], "steps": []})
     walter = [os.path.join(TOP, "walter"), "play"]
-    if subprocess.run(walter, input=empty, stdout=subprocess.DEVNULL, text=True).returncode != 0:
+    if subprocess.run(walter, input=json.dumps(EMPTY), stdout=subprocess.DEVNULL, text=True).returncode != 0:
         sys.exit("the program could not be built")
     return os.path.join(TOP, "crates", "walter", "out", "walter")
+
+
+def knows_areas(program):
+    """Whether a program takes the key `areas`."""
+    made = json.dumps({**EMPTY, "areas": 1})
+    return subprocess.run([program, "play"], input=made, capture_output=True, text=True).returncode == 0
 
 
 def compare(words, name, source, expected):
@@ -164,8 +175,9 @@ def compare_unproved(folder, count):
         sys.exit("\n".join(line for line in tried.stdout.splitlines() if "output=expected" not in line))
 
 
-def made_from(first, count, several, areas=False):
-    """So many seeds from the first on, each with its scenario; of several sites alone, or with areas, where that is asked for."""
+def made_from(first, count, several, areas=True):
+    """So many seeds from the first on, each with its scenario; of several sites alone, or without areas, where that is asked
+    for."""
     all_made = ((seed, scenario(seed, areas)) for seed in itertools.count(first))
     return itertools.islice((one for one in all_made if one[1]["sites"] > 1 or not several), count)
 
@@ -176,8 +188,7 @@ def main():
     parser.add_argument("--loads", type=int, default=12, metavar="N", help="how many loads are played behind them; 12 without "
                         "it")
     parser.add_argument("--several", action="store_true", help="play those of two to eight sites alone, and count only these")
-    parser.add_argument("--areas", action="store_true", help="make scenarios with the key `areas` too, and most of them with "
-                        "journals of two; the program doesn't know the key yet, so this is for --model")
+    parser.add_argument("--one-area", action="store_true", help="make scenarios without the key `areas`")
     parser.add_argument("--seed", type=int, default=0, metavar="N", help="the seed of the first; 0 without it")
     parser.add_argument("--program", metavar="PATH", help="the program; without it that of this repository, which "
                         "./walter proves and builds first where that isn't done yet")
@@ -186,9 +197,12 @@ def main():
     parser.add_argument("--model", action="store_true", help="play the model alone")
     words = parser.parse_args()
     program = None if words.model or words.unproved else words.program or built()
+    areas = not words.one_area and (program is None or knows_areas(program))
+    if not areas and not words.one_area:
+        print(NO_AREAS)
     met = Counter()
     with tempfile.TemporaryDirectory() as folder:
-        for seed, made in made_from(words.seed, words.scenarios, words.several, words.areas):
+        for seed, made in made_from(words.seed, words.scenarios, words.several, areas):
             run = model.played(made, met)
             if program:
                 compare([program, "play", "--trace"], f"seed {seed}", json.dumps(made), run.text())
@@ -201,7 +215,7 @@ def main():
     made_loads = [] if words.unproved else loads_from(words.seed, words.loads)
     for seed, calls in made_loads:
         compare_load(program, seed, calls)
-    counted = ALL + PACKS if words.areas else ALL
+    counted = ALL + AREAS if areas else ALL
     print("met: " + "; ".join(f"{kind}: {met[kind]:,}" for kind in counted if met[kind]))
     print("not met: " + ("; ".join(kind for kind in counted if not met[kind]) or "none"))
     how = "played by the model" if words.model else "the same"

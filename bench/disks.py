@@ -77,6 +77,8 @@ class Journal:
 
     def __init__(self, disk, capacity, areas=1, sites=journals.MOST_SITES):
         self.disk, self.capacity, self.sites = disk, capacity, sites
+        # Whether a pack has come to the switch byte.
+        self.turns = False
         if not disk.reads and not disk.pending:
             content = journals.empty(areas, capacity)
             self.write_pieces(0, content)
@@ -117,6 +119,7 @@ class Journal:
         self.write_pieces(size, bytes(max(0, area.begins - size)))
         self.disk.write(area.begins, pack + b"\0")
         self.disk.sync()
+        self.turns = True
         self.disk.write(journals.SWITCH, bytes([area.name == "B"]))
         self.disk.sync()
         self.area, self.gate = area, area.begins + len(pack)

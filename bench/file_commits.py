@@ -4,9 +4,9 @@
     python3 bench/file_commits.py
     python3 bench/file_commits.py --folder /mnt/disk --commits 5000
 
-One site plays so many transactions of one write, over disks in memory and over the files of a folder. A commit is two writes,
-its record's and its gate's, with a sync behind each: the same of files alone is done in Python, with records of the same size.
-Of each the least time of some runs counts.
+One site plays so many transactions of one write, over disks in memory and over the files of a folder; and 1 and 8 threads run
+them, of eight clients, over files. A commit is two writes, its record's and its gate's, with a sync behind each: the same of
+files alone is done in Python, with records of the same size. Of each the least time of some runs counts.
 """
 
 import argparse
@@ -21,19 +21,31 @@ from compare import built
 from growth import COMMIT, START, write
 
 RUNS, COMMITS = 3, 2_000
+CLIENTS = 8
 # The bytes of a record of one write, but for its gate.
 RECORD = 124
 
 
+def transactions(numbers):
+    """The bytes of a client who commits a transaction of one write for each number, of an object of its own."""
+    return "".join(START + write(1, number) + COMMIT for number in numbers)
+
+
 def scenario(commits):
     """One client commits so many transactions of one write."""
-    sent = "".join(START + write(1, number) + COMMIT for number in range(commits))
-    return json.dumps({"sites": 1, "f": 0, "containers": [[1, "regular", 0]], "clients": [[0, sent]],
+    return json.dumps({"sites": 1, "f": 0, "containers": [[1, "regular", 0]], "clients": [[0, transactions(range(commits))]],
                        "steps": [["call", 0]] * (3 * commits)})
 
 
-def seconds_of_play(program, text, folder):
-    words = [program, "play", *(["--disks", folder] if folder else [])]
+def threaded(commits, threads):
+    """Eight clients share the same transactions, and so many threads serve them."""
+    clients = [[0, transactions(range(first, commits, CLIENTS))] for first in range(CLIENTS)]
+    return json.dumps({"sites": 1, "f": 0, "containers": [[1, "regular", 0]], "clients": clients, "threads": threads,
+                       "steps": []})
+
+
+def seconds_of(program, command, text, folder):
+    words = [program, command, *(["--disks", folder] if folder else [])]
     begin = time.monotonic()
     ended = subprocess.run(words, input=text, capture_output=True, text=True)
     if ended.returncode != 0:
@@ -65,8 +77,15 @@ def in_folder(parent, measure):
 def told(program, parent, commits, runs):
     """The lines that tell the commits a second."""
     text = scenario(commits)
-    measures = [("over disks in memory", lambda: seconds_of_play(program, text, None)),
-                ("over file disks", lambda: in_folder(parent, lambda folder: seconds_of_play(program, text, folder))),
+
+    def run_by(threads):
+        shared = threaded(commits, threads)
+        return lambda: in_folder(parent, lambda folder: seconds_of(program, "run", shared, folder))
+
+    measures = [("over disks in memory", lambda: seconds_of(program, "play", text, None)),
+                ("over file disks", lambda: in_folder(parent, lambda folder: seconds_of(program, "play", text, folder))),
+                ("over file disks, run by 1 thread", run_by(1)),
+                ("over file disks, run by 8 threads", run_by(8)),
                 ("the syncs alone", lambda: in_folder(parent, lambda folder: seconds_of_syncs(folder, commits)))]
     yield f"{commits:,} commits of one write at one site, {runs} runs of each"
     for name, measure in measures:

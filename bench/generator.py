@@ -1,11 +1,12 @@
 """Random scenarios, each by its seed: of one site and of several, some by a link, and some that come to a limit.
 
-Of thirteen seeds in a row one makes a scenario that comes to a limit: a site's open transactions, the updates and the bytes of
+Of fourteen seeds in a row one makes a scenario that comes to a limit: a site's open transactions, the updates and the bytes of
 a transaction, the ids of a set, the bytes of a value and of a frame, the packets of a lane, the commits in a window, the ticks
-of a pump. Two make one of one site, and ten one of several, in the kinds of `SEVERAL`. These are made beside a run of the plain
-model, which tells which packets there are: so most deliveries find one, in order or not, again, late or never. In three of the
-kinds sites are pumped too, by a link of any rates, and so they are in some of one site. Where areas are asked for, most have
-journals of two, with about as many bytes for each area as a journal of one would have.
+of a pump. Two make one of one site, and eleven one of several, in the kinds of `SEVERAL`. These are made beside a run of the
+plain model, which tells which packets there are: so most deliveries find one, in order or not, again, late or never. In three
+of the kinds sites are pumped too, by a link of any rates, and so they are in some of one site. Most have journals of two areas,
+with about as many bytes for each as a journal of one area would have; of some the capacity is one at which a record just fits,
+or just doesn't. Arms are aimed at restarts too, at the calls of their loads, their packs and their Boots.
 """
 
 import random
@@ -14,7 +15,8 @@ from collections import Counter, namedtuple
 
 import journals
 import model
-from spelled import frame, on_set, write
+import readings
+from spelled import frame, on_set, record_of, write
 
 CONTAINERS = [[1, "regular", 0], [2, "cset", 0], [7, "regular", 0]]
 CUT = [b"", b"\2\0\0", b"\3" + bytes(12) + b"\0\0\0\5abc", b"\x0a" + bytes(12)]
@@ -27,6 +29,8 @@ RATES = [0, 0, 0, 20, 100, 100, 300, 500, 999, 1000]
 TICKS = [0, 1, 2, 3, 5, 10, 30]
 THREADS = [1, 2, 8, 32]
 AMPLE = 1 << 20
+# What a journal without records has: eight bytes, of its header or of its pack's length, and a gate.
+LEAST_SIZE = 9
 
 
 def frames(bodies):
@@ -116,20 +120,55 @@ def areas_of(rng, made):
     return {"areas": areas, "capacity": max(journals.LEAST_OF_TWO, short)}
 
 
-def step(rng, clients, calm, pumps):
+def sizes(site):
+    """With how many bytes of its journal, or of an area of it, a site's records just have place, record by record."""
+    found, size, packed = [], LEAST_SIZE, LEAST_SIZE
+    for entry in site.entries:
+        kept, wrote = (record and record_of(record) for record in (entry.kept, entry.wrote))
+        if kept is not None:
+            size, packed = size + 5 + len(kept), packed + len(journals.entry_of(kept, site.count))
+        if site.areas == 2 and entry.event == "restart" and entry.outcome != "passed":
+            size = packed
+        if wrote is not None:
+            size, packed = size + 5 + len(wrote), packed + len(journals.entry_of(wrote, site.count))
+            found.append(size)
+    return found
+
+
+def fitted(rng, made):
+    """The scenario with a capacity at which one of its records just fits, or about so."""
+    run = model.played({**made, "capacity": AMPLE}, Counter())
+    # Where there is place for the first Boot alone little comes of the rest.
+    found = [sizes(site) for site in run.sites]
+    size = rng.choice([size for some in found for size in some[1:] or some]) + rng.choice([-1, 0, 0, 1])
+    if made.get("areas") == 2:
+        return {**made, "capacity": max(journals.LEAST_OF_TWO, 9 + 2 * size + rng.randint(0, 1))}
+    return {**made, "capacity": max(readings.LEAST_CAPACITY, size)}
+
+
+def faulty_restart(rng, site):
+    """A site is stopped, and restarted over a fault of its disk: mostly at one of the calls that a restart makes, which reads
+    the disk, and makes four calls for its pack and four for its Boot. Mostly it is restarted again."""
+    armed = ["arm", site, rng.randint(1, 10), rng.choice(CHOICES)]
+    return [["stop", site], armed, *[["restart", site]] * rng.choice([1, 2, 2, 3])]
+
+
+def some_steps(rng, clients, calm, pumps):
+    """A step of a scenario of one site, or some that belong together."""
     if rng.random() < pumps:
-        return ["pump", 0]
+        return [["pump", 0]]
     if rng.random() < calm:
-        return ["call", rng.randrange(clients)]
-    word = rng.choice(["stop", "restart", "restart", "arm"])
-    return arm(rng, 0) if word == "arm" else [word, 0]
+        return [["call", rng.randrange(clients)]]
+    word = rng.choice(["stop", "restart", "restart", "arm", "fault"])
+    return faulty_restart(rng, 0) if word == "fault" else [arm(rng, 0) if word == "arm" else [word, 0]]
 
 
 def small(rng):
     """What some clients send, and steps in any order."""
     clients = [sent(rng) for _ in range(rng.randint(1, 5))]
     calm, pumps = rng.choice([1, 0.97, 0.85]), rng.choice([0, 0, 0.3])
-    made = of_one(clients, [step(rng, len(clients), calm, pumps) for _ in range(rng.randint(5, 200))])
+    steps = [step for _ in range(rng.randint(5, 200)) for step in some_steps(rng, len(clients), calm, pumps)]
+    made = of_one(clients, steps)
     if pumps:
         made.update(link_of(rng))
     if rng.random() < 0.3:
@@ -219,6 +258,7 @@ SEVERAL = {
     "stopped": Kind((2, 2, 3, 4), (30, 45, 12, 10, 3, 6, 0, 0), 0.1, 0.2, 0, False, 0.3),
     "failing": Kind((2, 2, 3), (30, 40, 12, 8, 1, 6, 6, 0), 0.05, 0.2, 0.7, False, 0.2),
     "short": Kind((2, 2, 3, 4), (40, 50, 14, 8, 2.5, 8, 0.5, 0), 0.05, 0.1, 0.2, True, 0),
+    "restarted": Kind((2, 2, 3, 4), (30, 40, 14, 6, 4, 9, 6, 0), 0.05, 0.1, 0.2, False, 0.1),
     "wide": Kind((5, 6, 7, 8), (30, 70, 22, 2, 0.3, 1, 0.3, 0), 0.05, 0.1, 0.1, False, 0.2),
     "fought over": Kind((2, 3, 3, 4), (50, 60, 6, 4, 0.3, 2, 2, 0), 0.05, 0.15, 0.1, False, 0),
     "pumped": Kind((2, 2, 3, 4), (25, 0.5, 0.3, 0.3, 0.8, 0.2, 0.8, 70), 0, 0.3, 0.2, False, 0.2),
@@ -244,7 +284,7 @@ def of_several(rng, site, regular, reads):
 class Maker:
     """A scenario of several sites while it is made, beside a run of the model that has played its steps so far."""
 
-    def __init__(self, rng, kind, areas=False):
+    def __init__(self, rng, kind, areas=True):
         self.rng, self.kind, self.steps = rng, kind, []
         self.sites = rng.choice(kind.sites)
         self.made = {"sites": self.sites, "f": rng.choice([0, 0, 1, rng.randrange(self.sites)]),
@@ -333,7 +373,13 @@ class Maker:
         return ["restart", self.rng.choice(down or range(self.sites))]
 
     def arm(self):
-        """Half of the arms are aimed at the record that ends a slow commit, and its packet comes at once."""
+        """Of three arms one is aimed at a restart, and half of the others at the record that ends a slow commit, whose packet
+        comes at once."""
+        if self.rng.random() < 0.35:
+            *before, last = faulty_restart(self.rng, self.rng.randrange(self.sites))
+            for made in before:
+                self.take(made)
+            return last
         lanes = list(self.lanes(model.VOTE, model.RELEASE))
         if not lanes or self.rng.random() < 0.5:
             return arm(self.rng, self.rng.randrange(self.sites))
@@ -362,7 +408,7 @@ class Maker:
         return {**self.made, "steps": self.steps}
 
 
-def several(rng, kind, areas=False):
+def several(rng, kind, areas=True):
     return Maker(rng, SEVERAL[kind], areas).scenario(rng.randint(20, 300))
 
 
@@ -413,10 +459,12 @@ AT_LIMIT = [many_open, many_updates, many_bytes, many_ids, long_value, long_fram
 BY_SEED = [None, "one", "one", *SEVERAL]
 
 
-def scenario(seed, areas=False):
-    """The scenario of a seed. The key `areas` is in none, unless it is asked for."""
+def scenario(seed, areas=True):
+    """The scenario of a seed; where no areas are asked for none has the key `areas`."""
     rng, kind = random.Random(seed), BY_SEED[seed % len(BY_SEED)]
-    if kind not in (None, "one"):
-        return several(rng, kind, areas)
-    made = small(rng) if kind else AT_LIMIT[seed // len(BY_SEED) % len(AT_LIMIT)](rng)
-    return {**made, **areas_of(rng, made)} if areas else made
+    if kind in (None, "one"):
+        made = small(rng) if kind else AT_LIMIT[seed // len(BY_SEED) % len(AT_LIMIT)](rng)
+        made.update(areas_of(rng, made) if areas else {})
+    else:
+        made = several(rng, kind, areas)
+    return fitted(rng, made) if kind and rng.random() < 0.25 else made

@@ -9,6 +9,11 @@ three commits 5,000 transactions, and 10,000, while its peers hear nothing, and 
 Last come the made scenarios of the command `load`, with 2,000, 6,000 and 20,000 calls: of each the least processor time, its
 events, the time that each event took, and this as a ratio to that of the first: about 1 where an event costs the same in all.
 
+With --restarts it plays other scenarios, by the program or with --model by the plain model: a site with 10 commits and one with
+2,000 stop and restart 1,000 times, over journals of one area and of two. Of each it prints the processor time that a restart
+took, in the first half and in the second; the bytes of the journal in the end, and how many of these count; and how many were ever written
+for records and packs. Of two areas a restart writes a pack of all records, and the journal doesn't grow by it.
+
 With --example it plays nothing, and writes one of the two big examples. Both are made so, and the scripts beside them:
 
     for run in ten_thousand_calls five_thousand_transactions; do
@@ -18,15 +23,19 @@ With --example it plays nothing, and writes one of the two big examples. Both ar
 """
 
 import argparse
+import itertools
 import json
+import os
 import re
 import subprocess
 import sys
 import tempfile
 import time
-from collections import Counter
+from collections import Counter, namedtuple
 from string import ascii_lowercase
 
+import journals
+import model
 from compare import built
 from loads import load_words
 from measured import events_of, measured, microseconds
@@ -37,6 +46,9 @@ SITES = 3
 MOST_BYTES, MOST_ENTRIES = 16_777_216, 100_000
 START, COMMIT = "0000000101", "0000000108"
 LOADS, SEED, RUNS = (2_000, 6_000, 20_000), 7, 5
+RESTARTS, COMMITS = 1_000, (10, 2_000)
+# How many bytes of a journal the records take that a commit of one write of one byte makes, and a restart.
+COMMIT_SIZE, BOOT_SIZE = 119, 10
 
 
 def write(container, local, value="a"):
@@ -208,6 +220,96 @@ def load_lines(program):
         yield f"load of {calls:,} calls: {least:.3f} s; {events:,} events; {microseconds(least, events)}{told}"
 
 
+# Stops and restarts
+
+
+def restarted(areas, commits, restarts, most):
+    """A site commits so many transactions, and then stops and restarts so often, of so many restarts at most. An area has place
+    for all records, unpacked, and no more: a load reads the whole disk, of which half is there from the start."""
+    sent = "".join(START + write(1, number) + COMMIT for number in range(commits))
+    size = 9 + BOOT_SIZE * (most + 1) + COMMIT_SIZE * commits
+    return {"sites": 1, "f": 0, "containers": [[1, "regular", 0]], "clients": [[0, sent]], "areas": areas,
+            "capacity": size if areas == 1 else 9 + 2 * size,
+            "steps": [["call", 0]] * (3 * commits) + [["stop", 0], ["restart", 0]] * restarts}
+
+
+# What plays: how many seconds of processor time a scenario takes, and what its first site's journal has in the end.
+Player = namedtuple("Player", "seconds journal")
+
+
+def seconds_by_model(made):
+    begun = time.process_time()
+    model.played(made, Counter())
+    return time.process_time() - begun
+
+
+def seconds_by_program(program, made):
+    """The least of some runs."""
+    seconds = []
+    with tempfile.TemporaryFile("w+") as source:
+        source.write(json.dumps(made))
+        for _ in range(RUNS):
+            source.seek(0)
+            seconds.append(measured([program, "play"], source).seconds)
+    return min(seconds)
+
+
+def journal_of_program(program, made):
+    with tempfile.TemporaryDirectory() as folder:
+        subprocess.run([program, "play", "--disks", folder], input=json.dumps(made), stdout=subprocess.DEVNULL, text=True,
+                       check=True)
+        with open(os.path.join(folder, "site-0.journal"), "rb") as file:
+            return file.read()
+
+
+def player_of(program):
+    """The program, or the model where there is none."""
+    if program is None:
+        return Player(seconds_by_model, lambda made: bytes(model.played(made, Counter()).sites[0].disk.reads))
+    return Player(lambda made: seconds_by_program(program, made), lambda made: journal_of_program(program, made))
+
+
+def ever_written(bodies, areas, restarts):
+    """How many bytes were written for these records, and for the packs that restarts made of all that stood before."""
+    records = sum(5 + len(body) for body in bodies)
+    if areas == 1:
+        return records
+    packed = list(itertools.accumulate(len(journals.entry_of(body, 1)) for body in bodies))
+    # The last record of all is the Boot of the last restart.
+    return records + sum(8 + size + 1 for size in packed[len(bodies) - restarts - 1 : -1])
+
+
+def milliseconds_of_halves(player, areas, commits, restarts):
+    """What a restart takes in the first half of them, and in the second."""
+    counts = 0, restarts // 2, restarts
+    none, half, whole = (player.seconds(restarted(areas, commits, count, restarts)) for count in counts)
+    return 1000 * (half - none) / counts[1], 1000 * (whole - half) / (restarts - counts[1])
+
+
+def restart_line(player, areas, commits, restarts):
+    first, last = milliseconds_of_halves(player, areas, commits, restarts)
+    made = restarted(areas, commits, restarts, restarts)
+    data = player.journal(made)
+    holding = journals.read(data, made["capacity"], 1)
+    bodies, counting = journals.bodies_of(holding), holding.gate + 1 - holding.area.begins
+    if len(bodies) != 1 + commits + restarts:
+        sys.exit(f"the journal has {len(bodies):,} records, and not one for each commit and each epoch")
+    return (f"{commits:,} commits, {'one area' if areas == 1 else 'two areas'}: {first:.3f} ms a restart, in the second half "
+            f"{last:.3f} ms; journal of {len(data):,} bytes, of which {counting:,} count; "
+            f"{ever_written(bodies, areas, restarts):,} written")
+
+
+def restart_lines(player, restarts):
+    """A line for each number of commits and each number of areas."""
+    yield f"{restarts:,} stops and restarts of a site"
+    for commits in COMMITS:
+        for areas in (1, 2):
+            yield restart_line(player, areas, commits, restarts)
+
+
+# The command
+
+
 def play_growing(program):
     fewer, more = (least_time(program, scenario(calls)) for calls in (10_000, 20_000))
     print(f"10,000 calls: {fewer:.3f} s; 20,000 calls: {more:.3f} s; ratio {more / fewer:.2f}")
@@ -224,15 +326,21 @@ def main():
     parser.add_argument("program", nargs="?", help="the program; without it that of this repository, which ./walter proves "
                         "and builds first where that isn't done yet")
     parser.add_argument("--loads", action="store_true", help="play only the made scenarios of the command load")
+    parser.add_argument("--restarts", action="store_true", help="play only stops and restarts of a site")
+    parser.add_argument("--count", type=int, default=RESTARTS, metavar="N", help=f"how often the site restarts; {RESTARTS:,} "
+                        "without it")
+    parser.add_argument("--model", action="store_true", help="have the plain model play the restarts")
     parser.add_argument("--example", choices=EXAMPLES, help="write this example, and play nothing")
     words = parser.parse_args()
     if words.example:
         print(EXAMPLES[words.example]())
         return
-    program = words.program or built()
-    if not words.loads:
+    if words.model and not words.restarts or words.count < 2:
+        parser.error("--model goes with --restarts, and a site restarts twice at least")
+    program = None if words.model else words.program or built()
+    if not words.loads and not words.restarts:
         play_growing(program)
-    for line in load_lines(program):
+    for line in restart_lines(player_of(program), words.count) if words.restarts else load_lines(program):
         print(line, flush=True)
 
 

@@ -10,6 +10,8 @@ Each file that is left must be empty, or a journal that can be read, whose recor
 at that site. Of a killed process the system keeps all that was written: a machine that stops isn't tried here.
 
 With --run threads drive the scenario. Two such runs may differ, so no journal is compared with another: each must be readable.
+With --areas the made scenario has journals of two areas, and behind its transactions its sites restart again and again: so some
+kills come amid a pack.
 
 Says how many files were met with how many records, and ends with status 1 where one is wrong: it has a line with what is wrong.
 """
@@ -30,6 +32,8 @@ from compare import built
 from growth import Spread
 
 KILLS, TRANSACTIONS = 200, 6
+# Of the made scenario with two areas: how often each site restarts, and a capacity that takes several writes to begin with.
+RESTARTS, CAPACITY_OF_TWO = 20, 300_000
 # The quickest of so many plays says how long one takes.
 WHOLE_PLAYS = 3
 CAPACITY = 16_777_216
@@ -114,8 +118,13 @@ def tried(program, scenario, is_run, kills, seed):
     return killed, met, lines
 
 
-def made():
-    return json.dumps(Spread(TRANSACTIONS).made())
+def made(has_areas=False):
+    """A scenario of three sites, with two areas where that is asked for."""
+    one = Spread(TRANSACTIONS).made()
+    if has_areas:
+        one.update(areas=2, capacity=CAPACITY_OF_TWO)
+        one["steps"] += [[word, site] for site in range(one["sites"]) for word in ("stop", "restart")] * RESTARTS
+    return json.dumps(one)
 
 
 def main():
@@ -124,6 +133,7 @@ def main():
     parser.add_argument("--program", metavar="PATH", help="the program; without it that of this repository, which ./walter "
                         "proves and builds first where that isn't done yet")
     parser.add_argument("--run", action="store_true", help="let threads drive the scenario")
+    parser.add_argument("--areas", action="store_true", help="make a scenario of journals of two areas, whose sites restart")
     parser.add_argument("--kills", type=int, default=KILLS, metavar="K", help=f"how often it is killed; {KILLS} without it")
     parser.add_argument("--seed", type=int, default=1, metavar="N", help="the seed of the moments; 1 without it")
     words = parser.parse_args()
@@ -131,7 +141,7 @@ def main():
         with open(words.scenario, encoding="utf-8") as file:
             text = file.read()
     else:
-        text = made()
+        text = made(words.areas)
     killed, met, lines = tried(words.program or built(), Scenario(text), words.run, words.kills, words.seed)
     print(f"{words.kills} plays, {killed} of them killed at work; files: {met['none']} with nothing, {met['a front']} with a front "
           f"of the records, {met['whole']} with all; {len(lines)} wrong")

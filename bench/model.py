@@ -252,6 +252,7 @@ class Site:
             try:
                 self.journal.append(record_of(plan.record))
             except Full as found:
+                self.meet_full()
                 outcome = full(found) if full else f"full:{found.need}:{found.left}"
                 self.enter(stamp, event, outcome)
                 return outcome
@@ -296,10 +297,14 @@ class Site:
         try:
             self.journal.pack()
         except Failed:
-            self.met["pack fails"] += 1
+            self.met[f"pack fails {'at' if self.journal.turns else 'before'} the switch byte"] += 1
             raise
         if self.journal.area != before:
             self.met[f"pack into {self.journal.area.name}"] += 1
+
+    def meet_full(self):
+        """Counts a record for which the journal has no place."""
+        self.met["full, of 1 area" if self.journal.area.name is None else "full, of 2 areas"] += 1
 
     def restart(self):
         stamp = self.clock + 1
@@ -308,6 +313,7 @@ class Site:
         try:
             self.load()
         except Failed:
+            self.met["load fails"] += 1
             return self.enter(stamp, "restart", "failed")
         kept = None
         if self.flight and len(self.journal.bodies) > len(self.records):
@@ -326,6 +332,8 @@ class Site:
             self.flight = boot
             return self.enter(stamp, "restart", "failed", kept, None, boot)
         except Full as full:
+            self.meet_full()
+            self.met["full behind a pack"] += self.areas == 2
             return self.enter(stamp, "restart", f"full:{full.need}:{full.left}", kept)
         self.records.append(boot)
         self.learn(boot)

@@ -20,8 +20,8 @@ RATES = ("lose", "repeat", "swap")
 TEXTS = {
     "long": f"the text: wants at most {MOST_BYTES} bytes",
     "json": "the text: wants JSON in UTF-8, an object outermost",
-    "keys": "the keys: wants sites, f, containers, clients and steps, and takes capacity, link, ticks, threads and arms "
-            "besides",
+    "keys": "the keys: wants sites, f, containers, clients and steps, and takes capacity, areas, link, ticks, threads and "
+            "arms besides",
     "sites": "sites: wants a whole number from 1 to 8",
     "f": "f: wants a whole number below sites",
     "containers": 'container {}: wants [number, "regular" or "cset", site] in a list, numbers below 2^32 that rise, a site '
@@ -29,7 +29,7 @@ TEXTS = {
     "clients": "client {}: wants [site, bytes] in a list, a site below sites, an even number of hex digits, at most 1024 of "
                "each site",
     "capacity": "the capacity: wants a whole number from 19 to 1099511627776",
-    "areas": f"the areas: wants 1, or 2 with a capacity of at least {journals.LEAST_OF_TWO}",
+    "areas": f"the areas: wants 1 or 2, and 2 only where the capacity is at least {journals.LEAST_OF_TWO}",
     "link": "the link: wants an object of just seed, a whole number below 2^64, and lose, repeat and swap, whole numbers "
             "from 0 to 1000",
     "ticks": "the ticks: wants a whole number from 0 to 10000",

@@ -14,6 +14,7 @@ import shlex
 import statistics
 import sys
 
+import file_commits
 from compare import built, first_difference
 from loads import load_words
 from measured import events_of, measured, microseconds
@@ -77,11 +78,16 @@ def main():
     parser.add_argument("--seed", type=int, default=7, metavar="N", help="the seed of the load; 7 without it")
     parser.add_argument("--calls", type=int, default=20_000, metavar="M", help="how many calls it has; 20000 without it")
     parser.add_argument("--runs", type=int, default=RUNS, metavar="K", help=f"how often each runs; {RUNS} without it")
+    parser.add_argument("--commits", type=int, metavar="C", help="print also how many commits a second the program makes over "
+                        "file disks, by so many, as file_commits.py does")
     words = parser.parse_args()
     if words.runs < 1:
         parser.error("--runs wants a number from 1")
-    sides = [Side("the program", [words.program or built()]), Side("the other", shlex.split(words.other))]
+    program = words.program or built()
+    sides = [Side("the program", [program]), Side("the other", shlex.split(words.other))]
     for line in compared(sides, words.seed, words.calls, words.runs):
+        print(line, flush=True)
+    for line in file_commits.told(program, None, words.commits, words.runs) if words.commits else []:
         print(line, flush=True)
 
 

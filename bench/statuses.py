@@ -82,6 +82,9 @@ CASES = [
     ("containers out of order", ["play"], scenario(containers='[2,"cset",0],[1,"cset",0]'), None, 2,
      NO_READING + readings.TEXTS["containers"].format(1), ""),
     ("a capacity of 10", ["play"], scenario(more=',"capacity":10'), None, 2, NO_READING + readings.TEXTS["capacity"], ""),
+    ("no areas", ["play"], scenario(more=',"areas":0'), None, 2, NO_READING + readings.TEXTS["areas"], ""),
+    ("two areas in 46 bytes", ["play"], scenario(more=',"areas":2,"capacity":46'), None, 2,
+     NO_READING + readings.TEXTS["areas"], ""),
     ("a link without a seed", ["play"], scenario(more=',"link":{"lose":0,"repeat":0,"swap":0}'), None, 2,
      NO_READING + readings.TEXTS["link"], ""),
     ("10,001 ticks", ["play"], scenario(more=',"ticks":10001'), None, 2, NO_READING + readings.TEXTS["ticks"], ""),
@@ -113,7 +116,7 @@ BYTES = {
     "records": (None, "its journal has records (at place 8)"),
     "no journal": (b"WALTERJ1", "it has no journal (at place 0)"),
     "a damaged journal": (b"WALTERJ1\1" + b"\0\0\0\5" + b"\1",
-                          "its journal is damaged, since it claims a length of 5 behind a gate (at place 8)"),
+                          "its journal is damaged, since it claims a length of 5 (at place 8)"),
 }
 UNFIT = "{}/site-0.journal: {}; move it away, or name another folder behind --disks"
 NO_FOLDER = "{} is no folder: make it, or name another behind --disks"

@@ -2,11 +2,11 @@
 """Has the program run random scenarios by threads, and checks the report and the trace of each by threaded.py.
 
 The scenarios go by their seeds, in the kinds of `KINDS`: of one to eight sites and of 1 to 32 threads, with links that lose,
-repeat and swap, with disks that are armed and with short journals, with few clients for many threads and with none. One of a
-hundred is to spend a trail. Each is run with its threads, and with one. Says how often each reply, outcome, record and packet
-was met in these runs, and what the link chose, and which of these were not met; and how many runs were accepted. Ends with
-status 1 where one isn't: it has a line with its seed and what is wrong. A run that takes two minutes is taken for one that
-never ends.
+repeat and swap, with disks that are armed and with short journals, of one area and of two, with few clients for many threads
+and with none. Where the program refuses the key `areas` none has it. One of a hundred is to spend a trail. Each is run with its
+threads, and with one. Says how often each reply, outcome, record and packet was met in these runs, and what the link chose, and
+which of these were not met; and how many runs were accepted. Ends with status 1 where one isn't: it has a line with its seed
+and what is wrong. A run that takes two minutes is taken for one that never ends.
 
 With --kilobytes a run has no more address space than these, so that threads are hard to make, or memory is wanting: it is to
 end all the same, with a right report or with status 5. From 4,000 on there is room for the program, and from 100,000 on for
@@ -23,7 +23,7 @@ from collections import Counter, namedtuple
 
 import compare
 import threaded
-from generator import CHOICES, COMMIT, START, frames, of_several, sent
+from generator import CHOICES, COMMIT, START, areas_of, frames, of_several, sent
 from spelled import PACKETS, write
 
 # How many sites, clients and threads there are, how many parts what a client sends has at most, how probable a link and arms
@@ -81,7 +81,7 @@ def client(rng, sites, parts):
     return [site, b"".join(made).hex()]
 
 
-def any_scenario(rng, kind):
+def any_scenario(rng, kind, areas):
     sites = rng.choice(kind.sites)
     made = {"sites": sites, "f": rng.choice([0, 0, rng.randrange(sites)]), "containers": containers(rng, sites),
             "clients": [client(rng, sites, kind.parts) for _ in range(rng.randint(*kind.clients))],
@@ -93,7 +93,7 @@ def any_scenario(rng, kind):
     # A site whose disk fails comes up again only where its journal has place.
     if kind.short:
         made["capacity"] = rng.randint(150, 2000)
-    return {**made, "steps": []}
+    return {**made, **(areas_of(rng, made) if areas else {}), "steps": []}
 
 
 def spent(rng, is_down):
@@ -106,10 +106,11 @@ def spent(rng, is_down):
             "capacity": capacity, "threads": rng.choice([2, 8]), "ticks": 5, "arms": arms, "steps": []}
 
 
-def scenario(seed):
+def scenario(seed, areas=True):
+    """The scenario of a seed; where no areas are asked for none has the key `areas`."""
     rng = random.Random(seed)
     if (seed + 1) % SPENT:
-        return any_scenario(rng, KINDS[seed % len(KINDS)])
+        return any_scenario(rng, KINDS[seed % len(KINDS)], areas)
     return spent(rng, seed // SPENT % 2 == 0)
 
 
@@ -144,9 +145,9 @@ def wrong_of(program, made, met, kilobytes=None):
     return None
 
 
-def accepted(program, seed, met, kilobytes=None):
+def accepted(program, seed, areas, met, kilobytes=None):
     """How many runs of a scenario are accepted: with its threads, and with one. The others are told."""
-    made = scenario(seed)
+    made = scenario(seed, areas)
     count = 0
     for threads in made["threads"], 1:
         wrong = wrong_of(program, {**made, "threads": threads}, met, kilobytes)
@@ -170,8 +171,11 @@ def main():
         print(json.dumps(scenario(words.seed)))
         return
     program, met = words.program or compare.built(), Counter()
+    areas = compare.knows_areas(program)
+    if not areas:
+        print(compare.NO_AREAS)
     seeds = range(words.seed, words.seed + words.scenarios)
-    count = sum(accepted(program, seed, met, words.kilobytes) for seed in seeds)
+    count = sum(accepted(program, seed, areas, met, words.kilobytes) for seed in seeds)
     print("met: " + "; ".join(f"{kind}: {met[kind]:,}" for kind in ALL if met[kind]))
     print("not met: " + ("; ".join(kind for kind in ALL if not met[kind]) or "none"))
     print(f"{words.scenarios:,} scenarios from seed {words.seed}, each with its threads and with one: {count:,} of "

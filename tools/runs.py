@@ -40,8 +40,6 @@ def script_of(text):
         return scripts.read_script(text), False
     try:
         return scripts.read_script(scripts.script_of(text)), True
-    except scripts.NoScript:
-        raise
     except scripts.Wrong:
         # Lines of a script that was made of JSON are nobody's.
         raise scripts.NoScenario from None

@@ -47,6 +47,8 @@ LINK = ("seed", "lose", "repeat", "swap")
 MOST_RATE, MOST_TICKS, MOST_THREADS = 1000, 10_000, 32
 MOST_SITES, MOST_CONTAINERS, MOST_CLIENTS, MOST_PACKET = 8, 256, 1024, (1 << 32) - 1
 LEAST_CAPACITY, MOST_CAPACITY, MOST_BYTES = 19, 1 << 40, 16_777_216
+# The least capacity of journals of two areas, of which each has half.
+LEAST_OF_TWO = 47
 # No step, container, client or arm takes as much in a scenario, but for a client's bytes, and all else together less than four
 # times as much.
 MOST_WORDS, MOST_ELSE = 64, 4
@@ -90,17 +92,6 @@ class NoScenario(Wrong):
 
     def in_file(self, name):
         return f"{name}: {self}"
-
-
-class NoScript(NoScenario):
-    """A scenario with a key for which scripts have no line."""
-
-    def __init__(self, key):
-        super().__init__()
-        self.key = key
-
-    def __str__(self):
-        return f'key "{self.key}": a script has no line for it'
 
 
 class Unfit(Exception):
@@ -241,7 +232,7 @@ class Script:
 
     def __init__(self):
         self.place = 0
-        self.sites = self.tolerated = self.capacity = self.link = self.ticks = self.threads = None
+        self.sites = self.tolerated = self.capacity = self.areas = self.link = self.ticks = self.threads = None
         self.containers, self.arms, self.armed_at = [], [], []
         self.clients, self.numbers, self.items = [], {}, []
         self.steps, self.places = [], []
@@ -279,8 +270,13 @@ class Script:
             self.sites = self.sites or MOST_SITES
 
     def take_capacity(self, size):
-        self.capacity = number(size, LEAST_CAPACITY, MOST_CAPACITY + 1,
-                               f"a number of bytes from {LEAST_CAPACITY} to {MOST_CAPACITY}")
+        least = LEAST_OF_TWO if self.areas == 2 else LEAST_CAPACITY
+        behind = ", since there are two areas" if self.areas == 2 else ""
+        self.capacity = number(size, least, MOST_CAPACITY + 1, f"a number of bytes from {least} to {MOST_CAPACITY}{behind}")
+
+    def take_areas(self, count):
+        most = 1 if self.capacity is not None and self.capacity < LEAST_OF_TWO else 2
+        self.areas = number(count, 1, most + 1, f"1 or 2 areas, and 2 only where the capacity is at least {LEAST_OF_TWO}")
 
     def take_link(self, seed, *rates):
         seed = number(seed, 0, 1 << 64, "a seed below 2^64")
@@ -427,7 +423,7 @@ class Script:
     def head(self):
         """What a scenario has beside its clients and its steps."""
         made = {"sites": self.sites, "f": self.tolerated, "containers": self.containers}
-        for key in "capacity", "link", "ticks", "threads":
+        for key in "capacity", "areas", "link", "ticks", "threads":
             if getattr(self, key) is not None:
                 made[key] = getattr(self, key)
         if self.arms:
@@ -463,6 +459,7 @@ def packet_kind(kind, which):
 FORMS = {
     "sites N tolerated F": Script.take_sites,
     "capacity N": Script.take_capacity,
+    "areas N": Script.take_areas,
     "link seed N lose N repeat N swap N": Script.take_link,
     "ticks N": Script.take_ticks,
     "threads N": Script.take_threads,
@@ -610,16 +607,18 @@ def head_lines(script, names):
 def catalog_lines(made):
     """The lines of what a scenario has beside its clients, its arms and its steps."""
     lines = [f"sites {made['sites']} tolerated {made['f']}"]
-    if "capacity" in made:
-        lines.append(f"capacity {made['capacity']}")
+    lines += lines_of_keys(made, "capacity", "areas")
     if "link" in made:
         lines.append(words_of_step("link", *(made["link"][part] for part in LINK)))
-    for key in "ticks", "threads":
-        if key in made:
-            lines.append(f"{key} {made[key]}")
+    lines += lines_of_keys(made, "ticks", "threads")
     for which, kind, site in made["containers"]:
         lines.append(f"container {which} {'set' if kind == 'cset' else kind} at {site}")
     return lines
+
+
+def lines_of_keys(made, *keys):
+    """The lines of those keys that a scenario has, each with a number alone."""
+    return [f"{key} {made[key]}" for key in keys if key in made]
 
 
 def turn_lines(name, frame):
@@ -638,8 +637,6 @@ def words_of_step(word, *numbers):
 
 def write(made):
     """A script of a scenario. Clients are named by their numbers, client0 and so on."""
-    if "areas" in made:
-        raise NoScript("areas")
     sent = [bytes.fromhex(sent) for _, sent in made["clients"]]
     # How many of each client's bytes its turns have sent so far.
     ends = [0] * len(sent)

@@ -1,7 +1,8 @@
 """The smallest script that can be found which still breaks an expectation: items of a script are left out as long as it does.
 
 What the link made is left out freely. A client's own lines are left out only where the script without them, played by its own
-deliveries, still meets the expectation: else anything that lacks a line would break it.
+deliveries, still meets the expectation: else anything that lacks a line would break it. So is the line that says how many areas
+journals have.
 """
 
 import copy
@@ -38,6 +39,7 @@ class Search:
         self.may_shorten = meets(played(script, self.own))
 
     def smallest(self):
+        self.leave_out_areas()
         for _ in range(ROUNDS):
             before = len(self.items)
             if self.may_shorten:
@@ -71,6 +73,16 @@ class Search:
         if len(own) < len(self.own) and self.meets(played(self.script, own)) and self.take(
                 [item for item in self.items if not is_of_client(item) or item.place not in places]):
             self.own = own
+
+    def leave_out_areas(self):
+        """Goes on with journals of one area where these come to the same."""
+        script = copy.copy(self.script)
+        script.areas = None
+        if self.script.areas is None or not self.meets(played(script, self.own)):
+            return
+        run = played(script, self.items)
+        if self.breaks(run):
+            self.script, self.items = script, run.items
 
     def take(self, items):
         """Goes on with these items where they still break the expectation."""

@@ -1,5 +1,6 @@
 """Journals of two areas in the plain model: what fits, what a restart packs, what faults leave of that, and wrong bytes."""
 
+import copy
 import json
 import os
 import random
@@ -37,6 +38,28 @@ def with_areas(made):
     return {**{key: value for key, value in made.items() if key != "capacity"}, "areas": 2, "capacity": AMPLE}
 
 
+def with_one_area(made):
+    """The same scenario with one area, and as much place."""
+    return {**{key: value for key, value in made.items() if key != "areas"}, "capacity": AMPLE}
+
+
+def full_of(outcome):
+    """How many bytes were needed and how many left where an outcome says that a journal was full, or None."""
+    if outcome.startswith("full:"):
+        return tuple(map(int, outcome.split(":")[1:]))
+    reply = bytes.fromhex(outcome[len("reply:") :]) if outcome.startswith("reply:") else b""
+    return struct.unpack(">QQ", reply[6:]) if reply[4:6] == bytes([model.REFUSED, 10]) else None
+
+
+def left_of(site, records, packed):
+    """How many bytes are left behind these records, of which so many are packed where there are two areas."""
+    bodies = list(map(record_of, records))
+    if site.areas == 1:
+        return site.capacity - 9 - sum(5 + len(body) for body in bodies)
+    entries = sum(len(journals.entry_of(body, site.count)) for body in bodies[:packed])
+    return (site.capacity - 9) // 2 - 9 - entries - sum(5 + len(body) for body in bodies[packed:])
+
+
 def outcomes(run):
     return [(entry.event, entry.outcome) for entry in run.sites[0].entries]
 
@@ -44,8 +67,19 @@ def outcomes(run):
 def bodies_on(site):
     """What a restart would find on the disk of a site, which is settled for it."""
     site.disk.settle()
-    data = bytes(site.disk.reads)
-    return journals.bodies_of(journals.read(data, site.capacity, site.count))
+    return bodies_in(site, site.disk)
+
+
+def bodies_in(site, disk):
+    return journals.bodies_of(journals.read(bytes(disk.reads), site.capacity, site.count))
+
+
+def crashed(disk, choice):
+    """The disk as it is once it has settled, if what is pending is left by this choice."""
+    left = copy.copy(disk)
+    left.safe, left.pending, left.choice = bytearray(disk.safe), list(disk.pending), choice
+    left.settle()
+    return left
 
 
 def is_armed(made):
@@ -96,39 +130,98 @@ class Areas(unittest.TestCase):
         self.assertEqual((met["pack into B"], met["pack into A"]), (2, 1))
 
     def test_with_ample_place_reports_are_the_same(self):
-        """Where no disk is armed: a restart makes more calls on it, and an arm counts them."""
+        """Where no disk is armed for a restart: it makes more calls, and an arm counts them. The example of areas has such an
+        arm."""
         made = [json.loads(file_text(path)) for path in examples("json") if "thousand" not in path]
+        made = [one for one in made if "areas" not in one]
         made += [one for one in map(random_scenario, RANDOM[:60]) if not is_armed(one) and len(one["steps"]) < 1000]
         self.assertGreater(len(made), 30)
         met = Counter()
         for one in made:
-            alone = {key: value for key, value in one.items() if key != "capacity"}
-            self.assertEqual(played(with_areas(one), met).text(), played(alone).text())
+            self.assertEqual(played(with_areas(one), met).text(), played(with_one_area(one)).text())
         self.assertTrue(met["pack into A"] and met["pack into B"])
 
-    def test_a_disk_keeps_the_records_whatever_fails(self):
+    def test_a_crash_leaves_the_records_or_one_more(self):
+        """Whatever call of a disk fails, and whatever is left of what was written since the last sync."""
         met = Counter()
         for seed in RANDOM[:60]:
-            made = generator.scenario(seed, True)
+            made = random_scenario(seed)
             readings.check(made)
-            for site in played(made, met).sites:
-                known, found = list(map(record_of, site.records)), bodies_on(site)
-                self.assertEqual(found[: len(known)], known, seed)
-                self.assertIn(found[len(known) :], ([], [site.flight and record_of(site.flight)]), seed)
-        self.assertTrue(all(met[what] for what in compare.PACKS), met)
+            run = model.Run(made, met)
+            for step in made["steps"]:
+                before = [len(site.entries) for site in run.sites]
+                run.step(*step)
+                for site in run.sites:
+                    if site.disk.broken and len(site.entries) > before[site.me]:
+                        self.check_crash(site, (seed, step))
+        self.assertTrue(all(met[what] for what in compare.AREAS), met)
 
-    def test_areas_are_made_where_they_are_asked_for(self):
-        self.assertFalse(any("areas" in random_scenario(seed) for seed in RANDOM))
-        some = [generator.scenario(seed, True) for seed in RANDOM[:60]]
+    def check_crash(self, site, where):
+        """The one more is the record in flight. A fault in a pack leaves none, and all of the records."""
+        known, flight = list(map(record_of, site.records)), site.flight and record_of(site.flight)
+        for choice in CHOICES:
+            found = bodies_in(site, crashed(site.disk, choice))
+            self.assertEqual(found[: len(known)], known, where)
+            self.assertIn(found[len(known) :], ([], [flight]) if flight else ([],), where)
+
+    def test_what_is_left_follows_from_the_trail(self):
+        """Packed are all records before the last restart that ended well, and in one that doesn't all that there are."""
+        met = Counter()
+        for seed in RANDOM:
+            for site in played(random_scenario(seed)).sites:
+                self.check_left(site, met)
+        for areas in 1, 2:
+            for what in "call", "deliver", "advance", "restart", "up":
+                self.assertTrue(met[areas, what], (areas, what))
+
+    def check_left(self, site, met):
+        records, packed = [], 0
+        for entry in site.entries:
+            word, full = entry.event.split(":")[0], full_of(entry.outcome)
+            records += [entry.kept] if entry.kept else []
+            if word == "restart" and (full or entry.outcome == "taken"):
+                packed = len(records)
+            if full:
+                self.assertEqual(full[1], left_of(site, records, packed))
+                met[site.areas, word] += 1
+            records += [entry.wrote] if entry.wrote else []
+        if site.up:
+            self.assertEqual(site.journal.left(), left_of(site, records, packed))
+            met[site.areas, "up"] += 1
+
+    def test_random_scenarios_have_areas_unless_none_are_asked_for(self):
+        some = [random_scenario(seed) for seed in RANDOM]
         self.assertEqual({made.get("areas") for made in some}, {None, 1, 2})
         self.assertTrue(all(made["capacity"] >= 47 for made in some if made.get("areas") == 2))
-        self.assertEqual([made for _, made in compare.made_from(3, 5, False, True)],
-                         [generator.scenario(seed, True) for seed in range(3, 8)])
+        alone = [made for _, made in compare.made_from(3, 20, False, False)]
+        self.assertEqual(alone, [generator.scenario(seed, False) for seed in range(3, 23)])
+        self.assertFalse(any("areas" in made for made in alone))
 
-    def test_a_script_has_no_line_for_them(self):
-        with self.assertRaises(scripts.NoScript) as wrong:
-            scripts.write(with_areas(FIRST_RUN))
-        self.assertEqual(str(wrong.exception), 'key "areas": a script has no line for it')
+    def test_some_capacities_just_fit_a_record(self):
+        for areas, more in (1, {}), (2, {"capacity": AMPLE}):
+            made = {**FIRST_RUN, **more, "areas": areas, "steps": FIRST_RUN["steps"] + STOP * 2}
+            sizes = generator.sizes(played(made).sites[0])
+            self.assertEqual(sizes, [19, 142, 152, 162] if areas == 1 else [19, 142, 96, 106])
+            for short, kept in (0, sizes), (1, sizes[: sizes.index(max(sizes))]):
+                size = max(sizes) - short
+                run = played(made, capacity=size if areas == 1 else 9 + 2 * size)
+                self.assertEqual(generator.sizes(run.sites[0])[: len(kept)], kept)
+                self.assertEqual(max(generator.sizes(run.sites[0])) == max(sizes), short == 0)
+        made = {**FIRST_RUN, "areas": 2, "steps": FIRST_RUN["steps"] + STOP * 2}
+        found = {generator.fitted(random.Random(seed), made)["capacity"] for seed in range(100)}
+        near = [size + more for size in (142, 96, 106) for more in (-1, 0, 1)]
+        self.assertEqual(found, {9 + 2 * size + odd for size in near for odd in (0, 1)})
+
+    def test_a_script_has_a_line_for_them(self):
+        for more in {"areas": 1}, {"areas": 2}, {"areas": 2, "capacity": 47}, {"areas": 1, "capacity": 19}, {}:
+            made = {**FIRST_RUN, **more}
+            text = scripts.write(made)
+            self.assertEqual(scripts.read(text), made)
+            self.assertEqual(list(readings.read(json.dumps(scripts.read(text)).encode())), list(scripts.read(text)))
+            self.assertEqual([line for line in text.splitlines() if line.startswith(("capacity", "areas"))],
+                             [f"{key} {more[key]}" for key in ("capacity", "areas") if key in more])
+        self.assertEqual(scripts.read("sites 1 tolerated 0\nareas 2\ncapacity 47")["areas"], 2)
+        self.assertEqual(scripts.LEAST_OF_TWO, journals.LEAST_OF_TWO)
 
 
 class Calls(unittest.TestCase):
@@ -177,6 +270,14 @@ class Calls(unittest.TestCase):
                          [("write", 151, 65536), ("write", 151 + 65536, 65536), ("write", 151 + 2 * 65536, at - 151 - 2 * 65536),
                           ("write", at, 8 + 10 + 1), ("sync",), ("write", 8, 1), ("sync",)])
         self.assertEqual(disks.Journal(disk, 300_001, 2, 1).bodies, [BOOT])
+
+    def test_a_disk_that_has_bytes_is_opened_as_its_header_says(self):
+        for made, asked, left in (2, 1, 142 - 9 - 10), (1, 2, 293 - 9 - 10):
+            disk = Counting()
+            disks.Journal(disk, 293, made, 1).append(BOOT)
+            journal, _ = self.calls(disk, lambda: disks.Journal(disk, 293, asked, 1))
+            self.assertEqual((journal.bodies, journal.left()), ([BOOT], left))
+            self.assertEqual(len(self.calls(disk, journal.pack)[1]), 4 if made == 2 else 0)
 
     def test_one_area_is_as_it_was(self):
         disk = Counting()
@@ -342,8 +443,9 @@ class Key(unittest.TestCase):
             self.assertIsNone(self.wrong(**more), more)
         for more in ({"areas": 0}, {"areas": 3}, {"areas": None}, {"areas": 2.0}, {"areas": True}, {"areas": 2, "capacity": 46},
                      {"areas": 3, "link": 0}):
-            self.assertEqual(self.wrong(**more), "the areas: wants 1, or 2 with a capacity of at least 47", more)
+            self.assertEqual(self.wrong(**more), "the areas: wants 1 or 2, and 2 only where the capacity is at least 47", more)
         self.assertEqual(self.wrong(areas=2, capacity=18), readings.TEXTS["capacity"])
+        self.assertTrue(readings.TEXTS["keys"].endswith(", and takes capacity, areas, link, ticks, threads and arms besides"))
         self.assertEqual(self.wrong(areas=2, link=0), readings.TEXTS["link"])
 
 

@@ -7,10 +7,14 @@ import sys
 import unittest
 from unittest import mock
 
-from played import InFolder, TOP, random_scenario
+from played import InFolder, TOP, random_scenario, run_bench
 import compare
 
 MODEL = f'#!/bin/sh\nexec {sys.executable} {os.path.join(TOP, "bench", "model.py")} "$@"\n'
+# Refuses a scenario with areas, and hands on any other.
+REFUSING = """read -r line
+case $line in *'"areas"'*) exit 2 ;; esac
+echo "$line" |"""
 
 
 def run_compare(*words):
@@ -29,6 +33,17 @@ class Compare(InFolder):
         self.assertEqual(len(made), 30)
         seeds = range(3, made[-1][0] + 1)
         self.assertEqual(made, [(seed, random_scenario(seed)) for seed in seeds if random_scenario(seed)["sites"] > 1])
+
+    def test_a_program_that_refuses_the_key_is_compared_without_areas(self):
+        playing = MODEL.replace("exec", "shift\nexec")
+        self.assertTrue(compare.knows_areas(self.write("program", playing, is_program=True)))
+        older = self.write("older", playing.replace("exec", REFUSING), is_program=True)
+        self.assertFalse(compare.knows_areas(older))
+        out = run_bench(compare, "--program", older, "--scenarios", "2", "--seed", "1", "--loads", "0")[1].splitlines()
+        self.assertEqual((out[0], out[-1]), ("the program refuses the key areas: no scenario has it",
+                                             "2 scenarios from seed 1: the same"))
+        out = run_bench(compare, "--model", "--one-area", "--scenarios", "2", "--loads", "0")[1]
+        self.assertNotIn("pack into", out)
 
     def test_of_any_number_of_sites(self):
         self.assertEqual(list(compare.made_from(3, 5, False)), [(seed, random_scenario(seed)) for seed in range(3, 8)])

@@ -2,12 +2,31 @@
 
 import json
 import os
+import re
+import sys
 import unittest
 from collections import Counter
+from unittest import mock
 
-from played import TOP, by_model, file_text
+from played import InFolder, TOP, by_model, file_text, run_bench
+import disks
 import growth
+import journals
+import model
 import scripts
+
+# Plays by the model, and leaves the journals where it is asked to.
+PROGRAM = f"""#!{sys.executable}
+import json, os, sys
+sys.path.insert(0, {os.path.join(TOP, "bench")!r})
+import model
+run = model.played(json.load(sys.stdin), model.Counter())
+for site in run.sites if "--disks" in sys.argv else []:
+    with open(os.path.join(sys.argv[-1], f"site-{{site.me}}.journal"), "wb") as file:
+        file.write(site.disk.reads)
+"""
+LINE = (r"10 commits, (one area|two areas): -?\d+\.\d{3} ms a restart, in the second half -?\d+\.\d{3} ms; journal of ([\d,]+) "
+        r"bytes, of which ([\d,]+) count; ([\d,]+) written")
 
 
 class Growth(unittest.TestCase):
@@ -48,6 +67,49 @@ class Growth(unittest.TestCase):
         made = json.loads(text)
         sites = [made["clients"][step[1]][0] if step[0] == "call" else step[1] for step in made["steps"]]
         self.assertLess(max(Counter(sites).values()) + 1, growth.MOST_ENTRIES)
+
+
+class Restarts(InFolder):
+    def test_the_model_and_a_program_tell_the_same_sizes(self):
+        program = self.write("program", PROGRAM, is_program=True)
+        told = []
+        with mock.patch.object(growth, "COMMITS", (10,)):
+            for words in ["--model"], [program]:
+                status, out = run_bench(growth, "--restarts", "--count", "4", *words)
+                self.assertIsNone(status)
+                first, *lines = out.splitlines()
+                self.assertEqual(first, "4 stops and restarts of a site")
+                told.append([self.numbers(line) for line in lines])
+        # A pack of all but the last Boot leaves 56 bytes out of each commit.
+        size, pack = 9 + 5 * 10 + 10 * 119, 8 + 4 * 10 + 10 * 63
+        self.assertEqual(told[0], told[1])
+        self.assertEqual(told[0][0], ("one area", size, size - 8, size - 9))
+        self.assertEqual(told[0][1][2], pack + 10 + 1)
+
+    def numbers(self, line):
+        self.assertRegex(line, f"^{LINE}$")
+        areas, *numbers = re.fullmatch(LINE, line).groups()
+        return (areas, *(int(number.replace(",", "")) for number in numbers))
+
+    def test_what_was_ever_written_is_counted(self):
+        """But for the gates, the switch byte, and the zeros of a new journal."""
+        for areas in 1, 2:
+            made, lengths, write = growth.restarted(areas, 7, 5, 5), [], disks.Disk.write
+
+            def noted(disk, at, data):
+                lengths.append(len(data))
+                write(disk, at, data)
+
+            with mock.patch.object(disks.Disk, "write", noted):
+                site = model.played(made, Counter()).sites[0]
+            bodies = journals.bodies_of(journals.read(bytes(site.disk.reads), made["capacity"], 1))
+            self.assertEqual(len(bodies), 1 + 7 + 5)
+            self.assertEqual(growth.ever_written(bodies, areas, 5), sum(size for size in lengths[1:] if size > 1))
+
+    def test_wrong_words(self):
+        for words in ["--model"], ["--restarts", "--model", "--count", "1"]:
+            with mock.patch("sys.stderr"):
+                self.assertEqual(run_bench(growth, *words)[0], 2)
 
 
 if __name__ == "__main__":

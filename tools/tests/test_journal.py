@@ -119,7 +119,7 @@ class Shown(InWords):
 
     def test_all_records_of_random_runs(self):
         """Those of the trail, and one in flight that a restart would find, whatever number of sites is told."""
-        for made in [*map(random_scenario, RANDOM[:40]), *(generator.scenario(seed, True) for seed in RANDOM[:40])]:
+        for made in [*map(random_scenario, RANDOM[:60]), *(generator.scenario(seed, False) for seed in RANDOM[:20])]:
             run = model.played(made, Counter())
             for site, data in zip(run.sites, map(self.settled, run.sites)):
                 told = self.lines(data, "--capacity", str(site.capacity), "--sites", str(site.count))
@@ -133,7 +133,7 @@ class Shown(InWords):
 
     def test_the_number_of_sites_is_found(self):
         for seed in RANDOM[:40]:
-            made = generator.scenario(seed, True)
+            made = random_scenario(seed)
             for data in disks_of(made):
                 given = tool("journal").sites_of("some.journal", data, Given(made.get("capacity", 1 << 24)))
                 self.assertLessEqual(given, made["sites"])

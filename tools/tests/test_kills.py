@@ -5,11 +5,14 @@ import json
 import os
 import sys
 import unittest
+from collections import Counter
 
 from played import InFolder, run_bench
 import file_commits
 import journals
 import kills
+import model
+import readings
 
 # Appends ten records to the file of each of two sites, with a pause before each: LENGTH says how long they are. The closed gate
 # behind the last one becomes the open one of the next.
@@ -58,13 +61,26 @@ class Kills(InFolder):
     def test_a_program_that_fails_is_told(self):
         self.assertEqual(self.kill(self.program(status="6"))[0], "the program ended with status 6\n")
 
+    def test_made_scenarios_of_two_areas_pack(self):
+        for has_areas in False, True:
+            met, text = Counter(), kills.made(has_areas)
+            readings.read(text.encode())
+            for site in model.played(json.loads(text), met).sites:
+                self.assertTrue(site.up)
+                self.assertEqual(site.committed, [2, 2, 2])
+                self.assertEqual(site.last_epoch(), 1 + kills.RESTARTS * has_areas)
+            packs = {what: 30 for what in ("pack into A", "pack into B")} if has_areas else {}
+            self.assertEqual({what: count for what, count in met.items() if what.startswith("pack into")}, packs)
+
     def test_commits_are_measured(self):
         program = self.program()
         status, told = run_bench(file_commits, "--program", program, "--commits", "5", "--runs", "1", "--folder", self.folder)
         self.assertIsNone(status)
         first, *lines = told.splitlines()
         self.assertEqual(first, "5 commits of one write at one site, 1 runs of each")
-        for line, name in zip(lines, ["over disks in memory", "over file disks", "the syncs alone"], strict=True):
+        names = ["over disks in memory", "over file disks", "over file disks, run by 1 thread", "over file disks, run by 8 threads",
+                 "the syncs alone"]
+        for line, name in zip(lines, names, strict=True):
             self.assertRegex(line, rf"^{name}: \d+\.\d{{3}} s, [\d,]+ commits a second$")
         self.assertEqual(sorted(os.listdir(self.folder)), ["program"])
 

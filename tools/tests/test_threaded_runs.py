@@ -11,18 +11,22 @@ from played import InFolder, TOP, run_bench
 import model
 import readings
 import threaded_runs
+from generator import AMPLE
 import threads
 
 TESTS = os.path.join(TOP, "tools", "tests")
-# Runs a scenario by the model, in some order of its turns and pumps.
+# Runs a scenario by the model, in some order of its turns and pumps; and takes whatever it is to play.
 MODEL = f"""#!{sys.executable}
 import json, sys
+if sys.argv[1:] == ["play"]:
+    sys.exit()
 sys.path.insert(0, {TESTS!r})
 from test_threaded import worked
 assert sys.argv[1:] == ["run", "--trace"]
 text = worked(json.load(sys.stdin), 1).text()
 """
 ACCEPTED = "print(text, end='')\n"
+PLAYS = "#!/bin/sh\n[ $1 = play ] && exit\n"
 # Refuses a last step that is no list, and has an event for each byte.
 EVENTS = """#!/bin/sh
 read -r line
@@ -45,9 +49,13 @@ class Scenarios(unittest.TestCase):
                      lambda one: len(one["clients"]) > one["threads"]):
             self.assertGreater(len(list(filter(some, made))), 10)
 
+    def test_areas_are_those_that_are_asked_for(self):
+        self.assertEqual({threaded_runs.scenario(seed).get("areas") for seed in range(200)}, {None, 1, 2})
+        self.assertFalse(any("areas" in threaded_runs.scenario(seed, False) for seed in range(200)))
+
     def test_a_full_journal_is_none_of_several_sites_but_where_a_trail_is_to_be_spent(self):
         """There a site might try again and again, which takes long."""
-        short = [seed for seed in range(300) if "capacity" in threaded_runs.scenario(seed)
+        short = [seed for seed in range(300) if threaded_runs.scenario(seed).get("capacity", AMPLE) < AMPLE
                  and (threaded_runs.scenario(seed)["sites"] > 1 or "arms" in threaded_runs.scenario(seed))]
         self.assertEqual(short, [99, 199, 299])
 
@@ -65,11 +73,16 @@ class Runs(InFolder):
         self.assertRegex(last, r"^3 scenarios from seed 4, each with its threads and with one: 6 of 6 runs accepted, "
                          r"with [\d,]+ entries and 0 spent trails$")
 
+    def test_a_program_that_refuses_areas_has_none(self):
+        program = self.program((MODEL + ACCEPTED).replace("sys.exit()", "sys.exit(2)"))
+        status, told = run_bench(threaded_runs, "--program", program, "--scenarios", "1", "--seed", "4")
+        self.assertEqual((status, told.splitlines()[0]), (0, "the program refuses the key areas: no scenario has it"))
+
     def test_wrong_runs_are_told(self):
         for text, wanted in [
             (MODEL + "print(text.replace(' taken ', ' passed ', 1), end='')\n", r"line \d+: the model makes of it: e 1 0 restart"),
             (MODEL + ACCEPTED + "sys.exit('no memory')\n", "status 1, no memory"),
-            ("#!/bin/sh\nexec sleep 9\n", "it hasn't ended in 0.2 s"),
+            (PLAYS + "exec sleep 9\n", "it hasn't ended in 0.2 s"),
         ]:
             with mock.patch.object(threaded_runs, "LONGEST", 0.2 if "sleep" in text else 60):
                 status, told = run_bench(threaded_runs, "--program", self.program(text), "--scenarios", "1")
@@ -82,7 +95,7 @@ class Runs(InFolder):
 
     def test_want_of_memory_is_an_end(self):
         for text, came in (("exit 5", "2 of 2 runs accepted"), ("exit 4", "0 of 2 runs accepted")):
-            program = self.program(f"#!/bin/sh\n[ $(ulimit -v) = 50000 ] && {text}\n")
+            program = self.program(PLAYS + f"[ $(ulimit -v) = 50000 ] && {text}\n")
             told = run_bench(threaded_runs, "--program", program, "--scenarios", "1", "--kilobytes", "50000")[1]
             self.assertIn(came, told)
             self.assertIn("; 2 were without memory" if "5" in text else "; 0 were without memory", told)

@@ -112,6 +112,21 @@ class Vary(unittest.TestCase):
         run = smaller.played(script, script.items)
         self.assertNotIn("bob setread 3:1 -> {7: 1}", [words for _, words in run.answers()])
 
+    def test_areas_that_have_no_part_in_it_are_left_out(self):
+        script = scripts.read_script(file_text(os.path.join(EXAMPLES, "packed_on_restart.script")))
+        for broken, areas in ("-> refused: the journal needs 123 bytes", 2), ("ann commit -> committed 0:1", None):
+            search = smaller.Search(script, smaller.played(script, script.items),
+                                    lambda run: any(broken in words for _, words in run.answers()), lambda run: True)
+            found = search.smallest()
+            self.assertEqual(found.areas, areas)
+            self.assertEqual("areas" in varied.script_text(found), areas == 2)
+            self.assertNotIn("stop 0", varied.script_text(found))
+        path = os.path.join(self.folder, "slow.script")
+        with open(path, "w", encoding="utf-8") as file:
+            file.write(file_text(SLOW).replace("sites 2 tolerated 0", "sites 2 tolerated 0\ncapacity 9999\nareas 2"))
+        status, told, _ = run_tool("vary", path, "--lose", "200", *ONE, "--expect", SLOW.replace(".script", ".expect"))
+        self.assertEqual((status, "\ncapacity 9999\n" in told, "areas" in told), (1, True, False))
+
     def test_by_the_program(self):
         program = os.path.join(self.folder, "program")
         with open(program, "w", encoding="utf-8") as file:
