@@ -1,4 +1,2 @@
-pub mod Moving
-pub mod Numbers
-pub mod Sets
 pub mod Steps
+pub mod Numbers

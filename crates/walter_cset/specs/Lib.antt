@@ -1,3 +1,1 @@
-pub mod Between
 pub mod Tallies
-pub mod Totals

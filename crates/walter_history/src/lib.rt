@@ -1,12 +1,7 @@
-//! What is kept of the versions of each object, and what a vector sees of it.
+//! The rows of versions of each object, and what a vector sees of them.
 #![tactic(auto)]
 
-mod folding;
 mod history;
-mod line;
 mod rows;
-mod steps;
 
 pub use history::History;
-pub use rows::Kept;
-pub use steps::Step;

@@ -1,3 +1,2 @@
-pub mod Committed
 pub mod HeldRows
 pub mod ReadRows
