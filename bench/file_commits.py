@@ -18,7 +18,7 @@ import tempfile
 import time
 
 from compare import built
-from growth import COMMIT, START, write
+from growth import at_one_site, commits_of
 
 RUNS, COMMITS = 3, 2_000
 CLIENTS = 8
@@ -26,20 +26,14 @@ CLIENTS = 8
 RECORD = 124
 
 
-def transactions(numbers):
-    """The bytes of a client who commits a transaction of one write for each number, of an object of its own."""
-    return "".join(START + write(1, number) + COMMIT for number in numbers)
-
-
 def scenario(commits):
     """One client commits so many transactions of one write."""
-    return json.dumps({"sites": 1, "f": 0, "containers": [[1, "regular", 0]], "clients": [[0, transactions(range(commits))]],
-                       "steps": [["call", 0]] * (3 * commits)})
+    return at_one_site([commits_of(range(commits))], [0] * (3 * commits))
 
 
 def threaded(commits, threads):
     """Eight clients share the same transactions, and so many threads serve them."""
-    clients = [[0, transactions(range(first, commits, CLIENTS))] for first in range(CLIENTS)]
+    clients = [[0, commits_of(range(first, commits, CLIENTS))] for first in range(CLIENTS)]
     return json.dumps({"sites": 1, "f": 0, "containers": [[1, "regular", 0]], "clients": clients, "threads": threads,
                        "steps": []})
 

@@ -11,8 +11,8 @@ events, the time that each event took, and this as a ratio to that of the first:
 
 With --restarts it plays other scenarios, by the program or with --model by the plain model: a site with 10 commits and one with
 2,000 stop and restart 1,000 times, over journals of one area and of two. Of each it prints the processor time that a restart
-took, in the first half and in the second; the bytes of the journal in the end, and how many of these count; and how many were ever written
-for records and packs. Of two areas a restart writes a pack of all records, and the journal doesn't grow by it.
+took, in the first half and in the second; the bytes of the journal in the end, and how many of these count; and how many were
+ever written for records and packs. Of two areas a restart writes a pack of all records, and the journal doesn't grow by it.
 
 With --example it plays nothing, and writes one of the two big examples. Both are made so, and the scripts beside them:
 
@@ -59,6 +59,11 @@ def write(container, local, value="a"):
 def transaction(local, value="a"):
     """The frames of a start, a write of one byte to the object 1:local, a read of it, and a commit."""
     return START + write(1, local, value) + f"0000000d0200000001{local:016x}" + COMMIT
+
+
+def commits_of(numbers):
+    """The bytes of a client who commits a transaction of one write for each number, of an object of its own."""
+    return "".join(START + write(1, number) + COMMIT for number in numbers)
 
 
 def at_one_site(sent, turns):
@@ -153,8 +158,8 @@ class Behind:
             self.steps += [["advance", peer, 0]] * self.transactions
 
     def made(self):
-        sent = "".join(START + write(1, number) + COMMIT for number in range(self.transactions))
-        return {"sites": SITES, "f": 1, "containers": [[1, "regular", 0]], "clients": [[0, sent]], "steps": self.steps}
+        clients = [[0, commits_of(range(self.transactions))]]
+        return {"sites": SITES, "f": 1, "containers": [[1, "regular", 0]], "clients": clients, "steps": self.steps}
 
 
 def spread(transactions):
@@ -226,10 +231,9 @@ def load_lines(program):
 def restarted(areas, commits, restarts, most):
     """A site commits so many transactions, and then stops and restarts so often, of so many restarts at most. An area has place
     for all records, unpacked, and no more: a load reads the whole disk, of which half is there from the start."""
-    sent = "".join(START + write(1, number) + COMMIT for number in range(commits))
     size = 9 + BOOT_SIZE * (most + 1) + COMMIT_SIZE * commits
-    return {"sites": 1, "f": 0, "containers": [[1, "regular", 0]], "clients": [[0, sent]], "areas": areas,
-            "capacity": size if areas == 1 else 9 + 2 * size,
+    return {"sites": 1, "f": 0, "containers": [[1, "regular", 0]], "clients": [[0, commits_of(range(commits))]],
+            "areas": areas, "capacity": size if areas == 1 else 9 + 2 * size,
             "steps": [["call", 0]] * (3 * commits) + [["stop", 0], ["restart", 0]] * restarts}
 
 
