@@ -1,2 +1,4 @@
-pub mod Steps
+pub mod Moving
 pub mod Numbers
+pub mod Sets
+pub mod Steps

@@ -35,7 +35,7 @@ other_than_0 (pos zero) apart = absurd (apart refl)
 other_than_0 (pos (suc n)) apart = refl
 other_than_0 (negsuc n) apart = refl
 
-rising_entries : (tally : BTreeMap ℕ ℤ) → IsOrdered nat_cmp tally → AllPairs (λ a b. a.0 < b.0) tally.entries
+pub rising_entries : (tally : BTreeMap ℕ ℤ) → IsOrdered nat_cmp tally → AllPairs (λ a b. a.0 < b.0) tally.entries
 rising_entries tally ordered i j d before within =
     let names = λ (e : ℕ × ℤ). e.0 in
     let here = get_or-map names tally.entries i d 0 (omega (arith, before, within)) in

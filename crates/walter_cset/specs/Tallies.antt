@@ -2,11 +2,15 @@
 use Rattle.std.specs.Prelude.{◌≡◌, ◌≢◌, ◌<◌, ◌^◌, ◌↔◌, ◌<ℤ◌, ◌-ℤ◌, ◌-◌, ℕ, ℤ, pos, List, AllPairs, Contains}
 use Rattle.std.specs.Option.{unwrap_or}
 use Rattle.std.specs.Ordering.{nat_cmp}
-use Rattle.std.specs.BTreeMap.{BTreeMap, get}
+use Rattle.std.specs.Map.{lookup}
+use Rattle.std.specs.BTreeMap.{BTreeMap, is_at}
 
--- the number of an id, 0 where the tally has none
+-- the number of an id, 0 where there is none
+abbrev pub number_in : List (ℕ × ℤ) → ℕ → ℤ
+number_in entries id = unwrap_or (lookup (is_at (nat_cmp id)) entries) (pos 0)
+
 abbrev pub number_at : BTreeMap ℕ ℤ → ℕ → ℤ
-number_at tally id = unwrap_or (get nat_cmp tally id) (pos 0)
+number_at tally id = number_in tally.entries id
 
 -- each number can rise or fall by one
 abbrev pub CanTally : BTreeMap ℕ ℤ → Type 0

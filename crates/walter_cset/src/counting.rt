@@ -1,38 +1,44 @@
-ghost use Rattle.std.specs.Prelude.{◌≡◌, ◌<◌, ◌^◌, length, IfOk};
-ghost use Rattle.walter_base.specs.Values.{count_of, AreCounts};
-ghost use Rattle.walter_history.specs.Rows.{seen_updates};
+//! The updates of a transaction, all taken in.
+ghost use Rattle.std.specs.Prelude.{◌≡◌, ◌+ℤ◌, ℕ, OnOk};
+ghost use Rattle.walter_base.specs.declared.names.ObjId.{ObjId as Object};
+ghost use Rattle.walter_base.specs.Values.{count_of};
+ghost use Rattle.walter_cset.specs.Totals.{total_of, HavePlaces};
 
-use crate::tally::{shown, step, take_in};
-use std::alloc::Global;
-use std::collections::BTreeMap;
-use walter_base::{Counts, Mem, ObjId, Row, Vts};
+use crate::totals::{MOST_TAKEN, Totals};
+use walter_base::{Mem, NoMemory, Update};
 
-/// The counts of the set after the rows' updates that the vector sees. Rows of other objects count for nothing.
-pub fn counts(alloc: Global, rows: &[Row], by: &Vts, oid: ObjId) -> Mem<Counts>
-    requires { length rows.now < 2 ^ 63 }
-    ensures { IfOk result (AreCounts oid (seen_updates by.now rows.now)) }
+/// Gives each id that the updates name a place, so that they can be taken in without memory. It is refused too where so
+/// many were taken in as no site comes to.
+pub fn open_all(totals: &mut Totals, updates: &[Update]) -> Mem<()>
+    ensures places { OnOk result (HavePlaces totals.new updates.now) }
+    ensures totals { (oid : Object) (id : ℕ) → total_of totals.new oid id ≡ total_of totals.old oid id }
 {
-    let mut tally = BTreeMap::new(alloc);
-    for row in rows {
-        if by.sees(row.version) {
-            take_in(&mut tally, &row.update, oid)?;
-        }
+    if updates.len() as u64 > MOST_TAKEN - totals.taken() {
+        return Err(NoMemory);
     }
-    let counts = shown(alloc, &tally)?;
-    Ok(counts)
+    for update in updates {
+        totals.give_place(update)?;
+    }
+    Ok(())
 }
 
-/// The count of one id in the set, 0 where none is shown.
-pub fn count(rows: &[Row], by: &Vts, oid: ObjId, id: u64) -> i64
-    requires { length rows.now < 2 ^ 63 }
-    ensures { result ≡ count_of oid id (seen_updates by.now rows.now) }
+/// Takes the updates in, without taking memory. Ids whose count comes to 0 have no place behind it.
+pub fn take_all(totals: &mut Totals, updates: &[Update])
+    requires { HavePlaces totals.old updates.now }
+    ensures { (oid : Object) (id : ℕ) → total_of totals.new oid id
+        ≡ total_of totals.old oid id +ℤ count_of oid id updates.now }
 {
-    let mut count = 0;
-    for row in rows {
-        let seen = by.sees(row.version);
-        if seen {
-            count += step(&row.update, oid, id);
-        }
+    for update in updates {
+        totals.take(update);
     }
-    count
+    close_all(totals, updates);
+}
+
+/// Drops the places that weren't used: of each id that the updates name and that has the count 0.
+pub fn close_all(totals: &mut Totals, updates: &[Update])
+    ensures { (oid : Object) (id : ℕ) → total_of totals.new oid id ≡ total_of totals.old oid id }
+{
+    for update in updates {
+        totals.drop_place(update);
+    }
 }

@@ -1,2 +1,7 @@
-pub mod LinesSet
+pub mod Fronts
 pub mod LastSeen
+pub mod LinesFold
+pub mod LinesSet
+pub mod Linked
+pub mod Owned
+pub mod Standing

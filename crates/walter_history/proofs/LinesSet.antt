@@ -1,59 +1,60 @@
 -- What follows where one object gets a line, and each other keeps its own.
-use Rattle.std.proofs.Common.{◌≡◌, ◌≤◌, Bool, true, false, List, [], ◌∷◌, ◌++◌, Option, Some, None, IsSome, is_some, cond, refl, ap, sym, ◌∙◌, subst, option_map, if◌then◌else◌, arith}
+use Rattle.std.proofs.Common.{◌≡◌, ◌≤◌, ◌+◌, Bool, true, false, List, Option, Some, None, IsSome, is_some, cond, refl, ap, sym, ◌∙◌, subst, option_map, if◌then◌else◌, arith}
 use Rattle.std.specs.Option.{option_map_or}
-use Rattle.std.specs.Global.{Vec}
 use Rattle.std.specs.Map.{lookup}
 use Rattle.std.proofs.lemmas.Map.Made.{lookup-map_values}
-use Rattle.std.proofs.lemmas.List.Elements.{All-push}
 use Rattle.indexmap.specs.IndexMap.{IndexMap, WritesThrough}
 use Rattle.walter_base.specs.declared.names.ObjId.{ObjId}
-use Rattle.walter_base.specs.declared.update.Row.{Row}
 use Rattle.walter_base.specs.Names.{same_object}
 use Rattle.walter_base.proofs.NameTests.{same_object-true, same_object_refl}
-use Rattle.walter_history.specs.Lines.{Line, line_of, line_in, lines_in, rows_of, room_of, IsOpen}
-use Rattle.walter_base.specs.Values.{object_of}
-use Rattle.walter_history.specs.Rows.{AreOf}
+use Rattle.walter_history.specs.declared.line.Line.{Line as Held}
+use Rattle.walter_history.specs.Kept.{none_kept, IsKeptOf}
+use Rattle.walter_history.specs.Lines.{Line, line_of, line_in, lines_in, kept_in, room_in}
 
 -- what a look-up finds, as a line
-pub line_found : (entries : List (ObjId × Vec Row)) (oid : ObjId) → line_of (lines_in entries) oid ≡ option_map line_in (lookup (same_object oid) entries)
+pub line_found : (entries : List (ObjId × Held)) (oid : ObjId) → line_of (lines_in entries) oid ≡ option_map line_in (lookup (same_object oid) entries)
 line_found entries oid = lookup-map_values line_in (same_object oid) entries
 
 -- the row that a look-up finds, and that none is found
-pub line_is : (entries : List (ObjId × Vec Row)) (oid : ObjId) (v : Vec Row) → Some v ≡ lookup (same_object oid) entries → line_of (lines_in entries) oid ≡ Some (line_in v)
+pub line_is : (entries : List (ObjId × Held)) (oid : ObjId) (v : Held) → Some v ≡ lookup (same_object oid) entries → line_of (lines_in entries) oid ≡ Some (line_in v)
 line_is entries oid v is = line_found entries oid ∙ ap (option_map line_in) (sym is)
 
-pub no_line : (entries : List (ObjId × Vec Row)) (oid : ObjId) → None ≡ lookup (same_object oid) entries → line_of (lines_in entries) oid ≡ None
+pub no_line : (entries : List (ObjId × Held)) (oid : ObjId) → None ≡ lookup (same_object oid) entries → line_of (lines_in entries) oid ≡ None
 no_line entries oid is = line_found entries oid ∙ ap (option_map line_in) (sym is)
 
 -- the same by whether a key is there
-pub found_some : (entries : List (ObjId × Vec Row)) (oid : ObjId) → is_some (lookup (same_object oid) entries) ≡ true → IsOpen (lines_in entries) oid
+pub found_some : (entries : List (ObjId × Held)) (oid : ObjId) → is_some (lookup (same_object oid) entries) ≡ true → IsSome (line_of (lines_in entries) oid)
 found_some entries oid is = subst (λ o. IsSome o) (sym (line_found entries oid)) (by (lookup (same_object oid) entries) is)
   where
-    by : (o : Option (Vec Row)) → is_some o ≡ true → IsSome (option_map line_in o)
+    by : (o : Option (Held)) → is_some o ≡ true → IsSome (option_map line_in o)
     by None h = absurd cc
     by (Some v) h = refl
 
-pub none_found : (entries : List (ObjId × Vec Row)) (oid : ObjId) → is_some (lookup (same_object oid) entries) ≡ false → line_of (lines_in entries) oid ≡ None
+pub none_found : (entries : List (ObjId × Held)) (oid : ObjId) → is_some (lookup (same_object oid) entries) ≡ false → line_of (lines_in entries) oid ≡ None
 none_found entries oid is = line_found entries oid ∙ by (lookup (same_object oid) entries) is
   where
-    by : (o : Option (Vec Row)) → is_some o ≡ false → option_map line_in o ≡ None
+    by : (o : Option (Held)) → is_some o ≡ false → option_map line_in o ≡ None
     by None h = refl
     by (Some v) h = absurd cc
 
-pub closed : (lines : List (ObjId × Line)) (oid : ObjId) → line_of lines oid ≡ None → IsOpen lines oid → ⊥
+-- lines that didn't change keep what they kept
+pub unchanged_own : (old new : List (ObjId × Held)) → new ≡ old → ((oid : ObjId) → IsKeptOf oid (kept_in (lines_in old) oid)) → (oid : ObjId) → IsKeptOf oid (kept_in (lines_in new) oid)
+unchanged_own old new same own oid = subst (λ es. IsKeptOf oid (kept_in (lines_in es) oid)) (sym {A = List (ObjId × Held)} same) (own oid)
+
+pub closed : (lines : List (ObjId × Line)) (oid : ObjId) → line_of lines oid ≡ None → IsSome (line_of lines oid) → ⊥
 closed lines oid none is = let there : is_some (line_of lines oid) ≡ true = is in absurd (cc (ap is_some none))
 
 -- what is known of an object's rows and room by its line
-pub rows_at : (lines : List (ObjId × Line)) (oid : ObjId) (line : Line) → line_of lines oid ≡ Some line → rows_of lines oid ≡ line.rows
-rows_at lines oid line is = ap (λ o. option_map_or (λ l. l.rows) o []) is
+pub kept_at : (lines : List (ObjId × Line)) (oid : ObjId) (line : Line) → line_of lines oid ≡ Some line → kept_in lines oid ≡ line.kept
+kept_at lines oid line is = ap (λ o. option_map_or (λ l. l.kept) o none_kept) is
 
-pub room_at : (lines : List (ObjId × Line)) (oid : ObjId) (line : Line) → line_of lines oid ≡ Some line → room_of lines oid ≡ line.room
+pub room_at : (lines : List (ObjId × Line)) (oid : ObjId) (line : Line) → line_of lines oid ≡ Some line → room_in lines oid ≡ line.room
 room_at lines oid line is = ap (λ o. option_map_or (λ l. l.room) o 0) is
 
-pub no_rows : (lines : List (ObjId × Line)) (oid : ObjId) → line_of lines oid ≡ None → rows_of lines oid ≡ []
-no_rows lines oid none = ap (λ o. option_map_or (λ l. l.rows) o []) none
+pub no_kept : (lines : List (ObjId × Line)) (oid : ObjId) → line_of lines oid ≡ None → kept_in lines oid ≡ none_kept
+no_kept lines oid none = ap (λ o. option_map_or (λ l. l.kept) o none_kept) none
 
-pub no_room : (lines : List (ObjId × Line)) (oid : ObjId) → line_of lines oid ≡ None → room_of lines oid ≡ 0
+pub no_room : (lines : List (ObjId × Line)) (oid : ObjId) → line_of lines oid ≡ None → room_in lines oid ≡ 0
 no_room lines oid none = ap (λ o. option_map_or (λ l. l.room) o 0) none
 
 pub record Sets (old new : List (ObjId × Line)) (oid : ObjId) (line : Line) : Type 0 where
@@ -63,12 +64,12 @@ pub record Sets (old new : List (ObjId × Line)) (oid : ObjId) (line : Line) : T
 pub from_view : (lines old new : List (ObjId × Line)) {oid : ObjId} {line : Line} → lines ≡ old → Sets lines new oid line → Sets old new oid line
 from_view lines old new {oid} {line} is sets = subst (λ l. Sets l new oid line) is sets
 
-chosen : (b : Bool) (v : Vec Row) (o : Option (Vec Row)) → option_map line_in (cond b (Some v) o) ≡ (if b then Some (line_in v) else option_map line_in o)
+chosen : (b : Bool) (v : Held) (o : Option (Held)) → option_map line_in (cond b (Some v) o) ≡ (if b then Some (line_in v) else option_map line_in o)
 chosen true v o = refl
 chosen false v o = refl
 
 -- a value under a key of the map sets a line
-pub sets_line : (before after : List (ObjId × Vec Row)) (oid : ObjId) (v : Vec Row)
+pub sets_line : (before after : List (ObjId × Held)) (oid : ObjId) (v : Held)
     → ((q : ObjId) → lookup (same_object q) after ≡ cond (same_object oid q) (Some v) (lookup (same_object q) before))
     → Sets (lines_in before) (lines_in after) oid (line_in v)
 sets_line before after oid v given = record {
@@ -79,7 +80,7 @@ sets_line before after oid v given = record {
 }
 
 -- and so does a write through the row that a look-up lends
-pub sets_lent : {S : Type 0} (before after : IndexMap ObjId (Vec Row) S) (oid : ObjId) (was v : Vec Row)
+pub sets_lent : {S : Type 0} (before after : IndexMap ObjId (Held) S) (oid : ObjId) (was v : Held)
     → Some was ≡ lookup (same_object oid) before.entries → WritesThrough same_object (same_object oid) before v after
     → Sets (lines_in before.entries) (lines_in after.entries) oid (line_in v)
 sets_lent before after oid was v is writes = sets_line before.entries after.entries oid v (writes.3 (ap is_some (sym is))).0
@@ -88,10 +89,10 @@ module _ (old new : List (ObjId × Line)) (oid : ObjId) (line : Line) (sets : Se
   pub line_now : line_of new oid ≡ Some line
   line_now = sets.at oid ∙ rw (same_object_refl oid) refl
 
-  pub opened : IsOpen new oid
+  pub opened : IsSome (line_of new oid)
   opened = subst (λ o. IsSome o) (sym line_now) refl
 
-  pub still : (other : ObjId) → IsOpen old other → IsOpen new other
+  pub still : (other : ObjId) → IsSome (line_of old other) → IsSome (line_of new other)
   still other was = subst (λ o. IsSome o) (sym (sets.at other)) (by (same_object oid other))
     where
       by : (b : Bool) → IsSome (if b then Some line else line_of old other)
@@ -107,36 +108,39 @@ module _ (old new : List (ObjId × Line)) (oid : ObjId) (line : Line) (sets : Se
       by true = refl
       by false = refl
 
-  pub rows_set : (other : ObjId) → rows_of new other ≡ (if same_object oid other then line.rows else rows_of old other)
-  rows_set other = part (λ l. l.rows) [] other
+  pub kept_set : (other : ObjId) → kept_in new other ≡ (if same_object oid other then line.kept else kept_in old other)
+  kept_set other = part (λ l. l.kept) none_kept other
 
-  pub room_set : (other : ObjId) → room_of new other ≡ (if same_object oid other then line.room else room_of old other)
+  pub room_set : (other : ObjId) → room_in new other ≡ (if same_object oid other then line.room else room_in old other)
   room_set other = part (λ l. l.room) 0 other
 
-  pub rows_kept : line.rows ≡ rows_of old oid → (other : ObjId) → rows_of new other ≡ rows_of old other
-  rows_kept same other = rows_set other ∙ (elim (same_object oid other) as (λ b. same_object oid other ≡ b → (if b then line.rows else rows_of old other) ≡ rows_of old other) [
-    | true ↦ λ is. same ∙ ap (rows_of old) (same_object-true oid other is)
+  pub kept_kept : line.kept ≡ kept_in old oid → (other : ObjId) → kept_in new other ≡ kept_in old other
+  kept_kept same other = kept_set other ∙ (elim (same_object oid other) as (λ b. same_object oid other ≡ b → (if b then line.kept else kept_in old other) ≡ kept_in old other) [
+    | true ↦ λ is. same ∙ ap (kept_in old) (same_object-true oid other is)
     | false ↦ λ is. refl
   ] refl)
 
-  pub room_kept : line.room ≡ room_of old oid → (other : ObjId) → room_of new other ≡ room_of old other
-  room_kept same other = room_set other ∙ (elim (same_object oid other) as (λ b. same_object oid other ≡ b → (if b then line.room else room_of old other) ≡ room_of old other) [
-    | true ↦ λ is. same ∙ ap (room_of old) (same_object-true oid other is)
+  pub room_kept : line.room ≡ room_in old oid → (other : ObjId) → room_in new other ≡ room_in old other
+  room_kept same other = room_set other ∙ (elim (same_object oid other) as (λ b. same_object oid other ≡ b → (if b then line.room else room_in old other) ≡ room_in old other) [
+    | true ↦ λ is. same ∙ ap (room_in old) (same_object-true oid other is)
     | false ↦ λ is. refl
   ] refl)
 
-  pub room_more : room_of old oid ≤ line.room → (other : ObjId) → room_of old other ≤ room_of new other
-  room_more more other = subst (λ n. room_of old other ≤ n) (sym (room_set other)) (elim (same_object oid other) as (λ b. same_object oid other ≡ b → room_of old other ≤ (if b then line.room else room_of old other)) [
-    | true ↦ λ is. subst (λ o. room_of old o ≤ line.room) (same_object-true oid other is) more
+  pub room_more : room_in old oid ≤ line.room → (other : ObjId) → room_in old other ≤ room_in new other
+  room_more more other = subst (λ n. room_in old other ≤ n) (sym (room_set other)) (elim (same_object oid other) as (λ b. same_object oid other ≡ b → room_in old other ≤ (if b then line.room else room_in old other)) [
+    | true ↦ λ is. subst (λ o. room_in old o ≤ line.room) (same_object-true oid other is) more
     | false ↦ λ is. omega arith
   ] refl)
 
-  pub own_set : ((o : ObjId) → AreOf o (rows_of old o)) → AreOf oid line.rows → (o : ObjId) → AreOf o (rows_of new o)
-  own_set own here o = subst (AreOf o) (sym (rows_set o)) (elim (same_object oid o) as (λ b. same_object oid o ≡ b → AreOf o (if b then line.rows else rows_of old o)) [
-    | true ↦ λ is. subst (λ p. AreOf p line.rows) (same_object-true oid o is) here
+  pub own_set : ((o : ObjId) → IsKeptOf o (kept_in old o)) → IsKeptOf oid line.kept → (o : ObjId) → IsKeptOf o (kept_in new o)
+  own_set own here o = subst (IsKeptOf o) (sym (kept_set o)) (elim (same_object oid o) as (λ b. same_object oid o ≡ b → IsKeptOf o (if b then line.kept else kept_in old o)) [
+    | true ↦ λ is. subst (λ p. IsKeptOf p line.kept) (same_object-true oid o is) here
     | false ↦ λ is. own o
   ] refl)
 
--- one more row of the object
-pub own_more : (oid : ObjId) (rows : List Row) (row : Row) → AreOf oid rows → object_of row.update ≡ oid → AreOf oid (rows ++ row ∷ [])
-own_more oid rows row own here = All-push (λ r. object_of r.update ≡ oid) rows row own here
+  pub room_less : room_in old oid ≤ line.room + 1 → (other : ObjId) → (if same_object oid other then room_in old oid else room_in old other + 1) ≤ room_in new other + 1
+  room_less less other = subst (λ n. (if same_object oid other then room_in old oid else room_in old other + 1) ≤ n + 1) (sym (room_set other)) (by (same_object oid other))
+    where
+      by : (b : Bool) → (if b then room_in old oid else room_in old other + 1) ≤ (if b then line.room else room_in old other) + 1
+      by true = less
+      by false = omega arith

@@ -1,36 +1,68 @@
--- A history as the list of its lines: each object that has a row, with its rows and the room for more.
-use Rattle.std.specs.Prelude.{ℕ, ◌-◌, List, [], map, Option, IsSome, vec_len, vec_capacity}
+-- A history as the list of its lines: each object that has a row, with what is kept of it and the room for more; and
+-- the vector at which it was folded last.
+use Rattle.std.specs.Prelude.{ℕ, ◌-◌, ◌≤◌, min, List, map, Option, IsSome, vec_len, vec_capacity}
 use Rattle.std.specs.Option.{option_map_or}
 use Rattle.std.specs.Map.{lookup}
 use Rattle.std.specs.Global.{Vec}
 use Rattle.walter_base.specs.declared.names.ObjId.{ObjId}
-use Rattle.walter_base.specs.declared.update.Row.{Row}
 use Rattle.walter_base.specs.Names.{same_object}
+use Rattle.walter_history.specs.declared.line.Line.{Line as Held}
+use Rattle.walter_history.specs.Folded.{Folds}
+use Rattle.walter_history.specs.Kept.{Kept, none_kept}
 
--- the rows of an object in the order of arrival, and how many more can be appended without memory
+-- what is kept of an object, and how many more rows can be appended without memory
 pub record Line : Type 0 where
-  pub rows : List Row
+  pub kept : Kept
   pub room : ℕ
+
+pub record Table : Type 0 where
+  pub floor : List ℕ
+  pub lines : List (ObjId × Line)
 
 -- the line of the object, if it has one
 abbrev pub line_of : List (ObjId × Line) → ObjId → Option Line
 line_of lines oid = lookup (same_object oid) lines
 
 -- the object has a row, maybe an empty one
-abbrev pub IsOpen : List (ObjId × Line) → ObjId → Type 0
-IsOpen lines oid = IsSome (line_of lines oid)
+abbrev pub IsOpen : Table → ObjId → Type 0
+IsOpen table oid = IsSome (line_of table.lines oid)
 
--- the rows of the object, empty where it has none
-abbrev pub rows_of : List (ObjId × Line) → ObjId → List Row
-rows_of lines oid = option_map_or (λ line. line.rows) (line_of lines oid) []
+-- what is kept of the object, nothing where it has no row
+abbrev pub kept_in : List (ObjId × Line) → ObjId → Kept
+kept_in lines oid = option_map_or (λ line. line.kept) (line_of lines oid) none_kept
+
+abbrev pub kept_of : Table → ObjId → Kept
+kept_of table oid = kept_in table.lines oid
 
 -- the room of the object, 0 where it has no row
-abbrev pub room_of : List (ObjId × Line) → ObjId → ℕ
-room_of lines oid = option_map_or (λ line. line.room) (line_of lines oid) 0
+abbrev pub room_in : List (ObjId × Line) → ObjId → ℕ
+room_in lines oid = option_map_or (λ line. line.room) (line_of lines oid) 0
 
--- the line that a vector of rows stands for
-abbrev pub line_in : Vec Row → Line
-line_in rows = record { rows = rows.items; room = vec_capacity rows - vec_len rows }
+abbrev pub room_of : Table → ObjId → ℕ
+room_of table oid = room_in table.lines oid
 
-abbrev pub lines_in : List (ObjId × Vec Row) → List (ObjId × Line)
+-- what the fields of a line keep
+abbrev pub kept_by : Held → Kept
+kept_by held = record {
+  value = held.value;
+  versions = held.versions.items;
+  writes = held.writes.items;
+  steps = held.steps.rows;
+}
+
+abbrev pub spare_of : {X : Type 0} → Vec X → ℕ
+spare_of v = vec_capacity v - vec_len v
+
+abbrev pub line_in : Held → Line
+line_in held = record {
+  kept = kept_by held;
+  room = min (spare_of held.versions) (min (spare_of held.writes) held.steps.room);
+}
+
+abbrev pub lines_in : List (ObjId × Held) → List (ObjId × Line)
 lines_in entries = map (λ e. (e.0, line_in e.1)) entries
+
+-- a line is folded, and has no less room
+pub record LineFolds (floor : List ℕ) (old new : Held) : Type 0 where
+  pub folds : Folds floor (kept_by old) (kept_by new)
+  pub room : (line_in old).room ≤ (line_in new).room

@@ -1,8 +1,7 @@
 -- What a vector sees of the rows of an object.
-use Rattle.std.specs.Prelude.{◌≡◌, ℕ, nat_le, Bool, not, List, filter, map, slice_get, Option, Some, None, option_map, if◌then◌else◌}
+use Rattle.std.specs.Prelude.{◌≡◌, ℕ, nat_le, Bool, List, filter, map, Option, Some, None, if◌then◌else◌}
 use Rattle.std.specs.List.{All}
 use Rattle.walter_base.specs.declared.names.ObjId.{ObjId}
-use Rattle.walter_base.specs.declared.names.Version.{Version}
 use Rattle.walter_base.specs.declared.update.Row.{Row}
 use Rattle.walter_base.specs.declared.update.Update.{Update}
 use Rattle.walter_base.specs.declared.update.Update.TheVariants.{Write, Add, Del}
@@ -30,7 +29,3 @@ bytes_of (Del oid id) = None
 -- the bytes that a row writes, where the vector sees it
 abbrev pub seen_bytes : List ℕ → Row → Option (List ℕ)
 seen_bytes vector row = if sees_row vector row then bytes_of row.update else None
-
--- the first version that the vector doesn't see
-abbrev pub first_unseen : List ℕ → List Row → Option Version
-first_unseen vector rows = option_map (λ row. row.version) (slice_get (filter (λ row. not (sees_row vector row)) rows) 0)

@@ -1,60 +1,79 @@
-ghost use Rattle.std.specs.Prelude.{◌≡◌, ◌<◌, ◌≤◌, ◌-◌, ◌++◌, ◌∷◌, [], None, Some, OnOk, IfErr, if◌then◌else◌};
+ghost use Rattle.std.specs.Prelude.{◌≡◌, ◌<◌, ◌≤◌, ◌+◌, true, List, [], None, Some, OnOk, IfErr, replicate, if◌then◌else◌};
 ghost use Rattle.std.specs.Option.{option_copied};
 ghost use Rattle.walter_base.specs.declared.names.ObjId.{ObjId as Object};
+ghost use Rattle.walter_base.specs.declared.update.Row.{Row as Told};
+ghost use Rattle.walter_base.specs.Conflicts.{first_outside};
 ghost use Rattle.walter_base.specs.Names.{same_object};
 ghost use Rattle.walter_base.specs.Values.{value_of, object_of};
-ghost use Rattle.walter_history.specs.Lines.{IsOpen, rows_of, room_of};
-ghost use Rattle.walter_history.specs.Rows.{AreOf, seen_updates, first_unseen};
+ghost use Rattle.walter_base.specs.Vectors.{Covers, most_sites};
+ghost use Rattle.walter_history.specs.Folded.{appended, Folds};
+ghost use Rattle.walter_history.specs.Kept.{StandsForRows, IsFoldedAt, IsKeptOf, value_by};
+ghost use Rattle.walter_history.specs.Rows.{seen_updates};
+ghost use Rattle.walter_history.specs.Steps.{told, AreBehind};
+ghost use Rattle.walter_history.specs.Lines.{IsOpen, kept_of, room_of, LineFolds};
 
-use crate::rows::{all_seen, last_seen, make_room};
+use crate::line::{Line, append, fold, make_room, no_line, value_of};
+use crate::rows::{Kept, all_seen};
+use crate::steps::Step;
 use indexmap::IndexMap;
 use std::alloc::Global;
 use std::marker::Model;
 use walter_base::{Bytes, Mem, ObjId, Row, Version, Vts};
 
-/// The rows of each object, in the order of their arrival. Contracts see the list of lines, and read it by `rows_of`,
-/// `room_of` and `IsOpen`: functions of the object.
+/// What is kept of the rows of each object, folded at a vector: the floor. Contracts see it and the list of lines, and
+/// read these by `kept_of`, `room_of` and `IsOpen`: functions of the object.
 #[derive(Drop)]
 pub struct History {
     alloc: Global,
-    lines: IndexMap<ObjId, Vec<Row>>,
+    floor: Vts,
+    lines: IndexMap<ObjId, Line>,
 }
 
 impl Model for History {
-    ghost use Rattle.std.specs.Prelude.{List};
     ghost use Rattle.walter_base.specs.declared.names.ObjId.{ObjId};
-    ghost use Rattle.walter_history.specs.Lines.{Line, lines_in, rows_of};
-    ghost use Rattle.walter_history.specs.Rows.{AreOf};
+    ghost use Rattle.walter_history.specs.Kept.{IsKeptOf};
+    ghost use Rattle.walter_history.specs.Rows.{seen_updates};
+    ghost use Rattle.walter_history.specs.Lines.{Table, lines_in, kept_in};
 
-    ghost Value = { List (ObjId × Line) };
+    ghost Value = { Table };
 
-    ghost view = { λ h. lines_in h.lines.entries };
+    ghost view = { λ h. record { floor = h.floor; lines = lines_in h.lines.entries } };
 
-    ghost invariant = { λ h. (oid : ObjId) → AreOf oid (rows_of (lines_in h.lines.entries) oid) };
+    ghost invariant = { λ h. (oid : ObjId) → IsKeptOf oid (kept_in (lines_in h.lines.entries) oid) };
 }
 
 impl History {
-    /// No object has a row.
-    pub fn new(alloc: Global) -> History
-        ensures { result ≡ [] }
+    /// No object has a row, and nothing is folded.
+    pub fn new(alloc: Global, sites: u8) -> History
+        requires { sites ≤ most_sites }
+        ensures { result ≡ record { floor = replicate sites 0; lines = [] } }
     {
         History {
             alloc,
+            floor: Vts::zero(sites),
             lines: IndexMap::new(alloc),
         }
+    }
+
+    /// The vector at which the rows were folded last.
+    pub fn floor(&self) -> &Vts
+        ensures { result.now ≡ self.entry.now.floor }
+    {
+        &self.floor
     }
 
     /// Gives the object an empty row, where it has none.
     pub fn open_row(&mut self, oid: ObjId) -> Mem<()>
         ensures opened { OnOk result (IsOpen self.new oid) }
         ensures still { (other : Object) → IsOpen self.old other → IsOpen self.new other }
-        ensures rows { (other : Object) → rows_of self.new other ≡ rows_of self.old other }
+        ensures kept { (other : Object) → kept_of self.new other ≡ kept_of self.old other }
         ensures room { (other : Object) → room_of self.new other ≡ room_of self.old other }
+        ensures floor { self.new.floor ≡ self.old.floor }
     {
         if self.lines.contains_key(&oid) {
             return Ok(());
         }
-        self.lines.insert(oid, Vec::new(self.alloc))?;
+        self.lines.insert(oid, no_line(self.alloc))?;
         Ok(())
     }
 
@@ -63,14 +82,15 @@ impl History {
         ensures enough { OnOk result (k ≤ room_of self.new oid) }
         ensures opened { OnOk result (IsOpen self.new oid) }
         ensures still { (other : Object) → IsOpen self.old other → IsOpen self.new other }
-        ensures rows { (other : Object) → rows_of self.new other ≡ rows_of self.old other }
+        ensures kept { (other : Object) → kept_of self.new other ≡ kept_of self.old other }
         ensures room { (other : Object) → room_of self.old other ≤ room_of self.new other }
+        ensures floor { self.new.floor ≡ self.old.floor }
     {
         self.open_row(oid)?;
-        let Some(rows) = self.lines.get_mut(&oid) else {
+        let Some(line) = self.lines.get_mut(&oid) else {
             return Ok(());
         };
-        make_room(rows, k)
+        make_room(line, k)
     }
 
     /// Puts a row behind the others of the object, without taking memory.
@@ -78,38 +98,97 @@ impl History {
         requires room { 0 < room_of self.old oid }
         requires own { object_of row.update ≡ oid }
         ensures still { (other : Object) → IsOpen self.old other → IsOpen self.new other }
-        ensures rows { (other : Object) → rows_of self.new other ≡ (if same_object oid other then rows_of self.old oid ++ row ∷ [] else rows_of self.old other) }
-        ensures room { (other : Object) → room_of self.new other ≡ (if same_object oid other then room_of self.old oid - 1 else room_of self.old other) }
+        ensures kept { (other : Object) → kept_of self.new other
+            ≡ (if same_object oid other then appended row (kept_of self.old oid) else kept_of self.old other) }
+        ensures room { (other : Object)
+            → (if same_object oid other then room_of self.old oid else room_of self.old other + 1)
+            ≤ room_of self.new other + 1 }
+        ensures floor { self.new.floor ≡ self.old.floor }
     {
-        let Some(rows) = self.lines.get_mut(&oid) else {
+        let Some(line) = self.lines.get_mut(&oid) else {
             return;
         };
-        rows.push_reserved(row);
+        append(line, row);
     }
 
-    /// The rows of the object, in the order of their arrival.
-    pub fn rows(&self, oid: ObjId) -> &[Row]
-        ensures rows { result.now ≡ rows_of self.now oid }
-        ensures own { AreOf oid (rows_of self.now oid) }
+    /// Folds all rows at the vector, without taking memory.
+    pub fn fold(&mut self, floor: &Vts)
+        requires { Covers floor.now self.old.floor }
+        ensures stands { (oid : Object) (rows : List Told)
+            → StandsForRows oid self.old.floor (kept_of self.old oid) rows
+            → StandsForRows oid floor.now (kept_of self.new oid) rows }
+        ensures folded { (oid : Object) → IsFoldedAt floor.now (kept_of self.new oid) }
+        ensures floor { self.new.floor ≡ floor.now }
+        ensures still { (oid : Object) → IsOpen self.old oid → IsOpen self.new oid }
+        ensures room { (oid : Object) → room_of self.old oid ≤ room_of self.new oid }
+    {
+        self.lines.retain(
+            |_oid: &ObjId, line: &mut Line| -> bool
+                ensures { (result ≡ true) × LineFolds floor.entry.now line.old line.new }
+            {
+                fold(line, floor);
+                true
+            },
+        );
+        self.floor = *floor;
+    }
+
+    /// What is kept of the object.
+    pub fn rows(&self, oid: ObjId) -> Kept<'_>
+        ensures value { option_copied result.value ≡ (kept_of self.entry.now oid).value }
+        ensures versions { result.versions.now ≡ (kept_of self.entry.now oid).versions }
+        ensures writes { result.writes.now ≡ (kept_of self.entry.now oid).writes }
+        ensures steps { told result.steps.now ≡ (kept_of self.entry.now oid).steps }
+        ensures own { IsKeptOf oid (kept_of self.entry.now oid) }
     {
         match self.lines.get(&oid) {
-            Some(rows) => rows,
+            Some(line) => Kept {
+                value: line.value.as_ref(),
+                versions: &line.versions,
+                writes: &line.writes,
+                steps: line.steps.as_slice(),
+            },
+            None => Kept {
+                value: None,
+                versions: &[],
+                writes: &[],
+                steps: &[],
+            },
+        }
+    }
+
+    /// The steps of the object that one of the vectors may see and the other not, from the first of them on.
+    pub fn steps_between(&self, oid: ObjId, from: &Vts, to: &Vts) -> &[Step]
+        ensures { AreBehind from.now to.now (kept_of self.entry.now oid).steps (told result.now) }
+    {
+        match self.lines.get(&oid) {
+            Some(line) => line.steps.between(from, to),
             None => &[],
         }
     }
 
     /// The value that the updates seen by the vector leave the object.
     pub fn latest(&self, oid: ObjId, by: &Vts) -> Option<&Bytes>
-        ensures { option_copied result ≡ value_of oid (seen_updates by.now (rows_of self.entry.now oid)) }
+        requires { Covers by.now self.now.floor }
+        ensures value { option_copied result ≡ value_by by.now oid (kept_of self.entry.now oid) }
+        ensures rows { (rows : List Told) → StandsForRows oid self.entry.now.floor (kept_of self.entry.now oid) rows
+            → option_copied result ≡ value_of oid (seen_updates by.now rows) }
     {
-        last_seen(self.rows(oid), oid, by)
+        match self.lines.get(&oid) {
+            Some(line) => value_of(line, oid, by),
+            None => None,
+        }
     }
 
-    /// Whether the vector sees all versions of the object's rows. The error is the first that it doesn't see.
+    /// Whether the vector, whichever it is, sees all versions of the object's writes. The error is the first that it
+    /// doesn't see.
     pub fn unmodified(&self, oid: ObjId, by: &Vts) -> Result<(), Version>
-        ensures seen { OnOk result (first_unseen by.now (rows_of self.now oid) ≡ None) }
-        ensures first { IfErr result (λ version. first_unseen by.now (rows_of self.now oid) ≡ Some version) }
+        ensures seen { OnOk result (first_outside by.now (kept_of self.now oid).versions ≡ None) }
+        ensures first { IfErr result (λ version. first_outside by.now (kept_of self.now oid).versions ≡ Some version) }
     {
-        all_seen(self.rows(oid), by)
+        match self.lines.get(&oid) {
+            Some(line) => all_seen(&line.versions, by),
+            None => Ok(()),
+        }
     }
 }

@@ -1,7 +1,12 @@
-//! The rows of versions of each object, and what a vector sees of them.
+//! What is kept of the versions of each object, and what a vector sees of it.
 #![tactic(auto)]
 
+mod folding;
 mod history;
+mod line;
 mod rows;
+mod steps;
 
 pub use history::History;
+pub use rows::Kept;
+pub use steps::Step;

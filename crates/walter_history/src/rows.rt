@@ -1,19 +1,20 @@
-ghost use Rattle.std.specs.Prelude.{◌≡◌, ◌≤◌, None, Some, OnOk, IfErr};
+ghost use Rattle.std.specs.Prelude.{◌≡◌, None, Some, OnOk, IfErr};
 ghost use Rattle.std.specs.Option.{option_copied};
+ghost use Rattle.walter_base.specs.Conflicts.{first_outside};
 ghost use Rattle.walter_base.specs.Values.{value_of};
-ghost use Rattle.walter_history.specs.Lines.{line_in};
-ghost use Rattle.walter_history.specs.Rows.{AreOf, seen_bytes, seen_updates, first_unseen};
+ghost use Rattle.walter_history.specs.Rows.{AreOf, seen_bytes, seen_updates};
 
-use walter_base::{Bytes, Mem, ObjId, Row, Update, Version, Vts};
+use crate::steps::Step;
+use walter_base::{Bytes, ObjId, Row, Update, Version, Vts};
 
-/// Makes room for so many more rows.
-pub fn make_room(rows: &mut Vec<Row>, k: u64) -> Mem<()>
-    ensures rows { rows.new.items ≡ rows.old.items }
-    ensures enough { OnOk result (k ≤ (line_in rows.new).room) }
-    ensures more { (line_in rows.old).room ≤ (line_in rows.new).room }
-{
-    rows.reserve(k as usize)?;
-    Ok(())
+/// What is kept of the rows of an object: the value of the writes that were folded, the versions of all writes, and the
+/// writes and the other changes that weren't folded.
+#[derive(Clone, Copy, Debug)]
+pub struct Kept<'a> {
+    pub value: Option<&'a Bytes>,
+    pub versions: &'a [Version],
+    pub writes: &'a [Row],
+    pub steps: &'a [Step],
 }
 
 /// The bytes that the row writes, where the vector sees it.
@@ -45,14 +46,13 @@ pub fn last_seen<'a>(rows: &'a [Row], oid: ObjId, by: &Vts) -> Option<&'a Bytes>
 }
 
 /// The first version that the vector doesn't see is an error.
-pub fn all_seen(rows: &[Row], by: &Vts) -> Result<(), Version>
-    ensures seen { OnOk result (first_unseen by.now rows.now ≡ None) }
-    ensures first { IfErr result (λ version. first_unseen by.now rows.now ≡ Some version) }
+pub fn all_seen(versions: &[Version], by: &Vts) -> Result<(), Version>
+    ensures seen { OnOk result (first_outside by.now versions.now ≡ None) }
+    ensures first { IfErr result (λ version. first_outside by.now versions.now ≡ Some version) }
 {
-    for row in rows {
-        let version = row.version;
-        if !by.sees(version) {
-            return Err(version);
+    for version in versions {
+        if !by.sees(*version) {
+            return Err(*version);
         }
     }
     Ok(())

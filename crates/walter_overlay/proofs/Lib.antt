@@ -1,2 +1,2 @@
+pub mod Laid
 pub mod Room
-pub mod Bases

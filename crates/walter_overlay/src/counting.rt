@@ -1,37 +1,44 @@
-ghost use Rattle.std.specs.Prelude.{◌≡◌, ◌<◌, ◌^◌, ◌+ℤ◌, length, IfOk, All};
+ghost use Rattle.std.specs.Prelude.{◌≡◌, ◌<◌, ◌≤◌, ◌^◌, ◌+ℤ◌, ◌-ℤ◌, ◌≤ℤ◌, ℕ, pos, length, OnOk, IfOk};
 ghost use Rattle.walter_base.specs.Values.{count_of};
-ghost use Rattle.walter_overlay.specs.Overlays.{AreRising, AreLaidOver, IsModest};
+ghost use Rattle.walter_cset.specs.Tallies.{number_at};
+ghost use Rattle.walter_cset.specs.Totals.{IsWithin};
+ghost use Rattle.walter_overlay.specs.Overlays.{AreLaidOver, IsModest};
 
+use crate::laying::laid;
 use std::alloc::Global;
 use std::collections::BTreeMap;
 use walter_base::{Counts, Mem, ObjId, Update};
 use walter_cset::{shown, step, take_in};
 
-/// The counts of a set that had the counts `base`, after the updates.
-pub fn counts(alloc: Global, base: &Counts, updates: &[Update], oid: ObjId) -> Mem<Counts>
-    requires rising { AreRising base.now }
-    requires modest { All (λ e. IsModest e.1) base.now }
+/// The counts of a set that had the counts `base` but for the moves, after the updates. It costs what it gives, the
+/// moves and the updates.
+pub fn counts(
+    alloc: Global,
+    base: &BTreeMap<u64, i64>,
+    moves: &mut BTreeMap<u64, i64>,
+    updates: &[Update],
+    oid: ObjId,
+) -> Mem<Counts>
+    requires base { (id : ℕ) → IsWithin (2 ^ 61) (number_at base.now id) }
+    requires moves { (id : ℕ) → IsWithin (2 ^ 62) (number_at moves.old id) }
     requires few { length updates.now < 2 ^ 61 }
-    ensures { IfOk result (AreLaidOver base.now oid updates.now) }
+    ensures { IfOk result (AreLaidOver (λ id. number_at base.now id +ℤ number_at moves.old id) oid updates.now) }
 {
-    let mut tally = laid(alloc, base.as_slice())?;
-    for update in updates {
-        take_in(&mut tally, update, oid)?;
-    }
-    let counts = shown(alloc, &tally)?;
-    Ok(counts)
+    take_own(moves, updates, oid)?;
+    let changes = shown(alloc, moves)?;
+    laid(alloc, base, changes.as_slice())
 }
 
-/// The counts, by id.
-fn laid(alloc: Global, base: &[(u64, i64)]) -> Mem<BTreeMap<u64, i64>>
-    requires { AreRising base.now }
-    ensures { IfOk result (λ tally. tally.entries ≡ base.now) }
+/// Takes the updates into the moves.
+fn take_own(moves: &mut BTreeMap<u64, i64>, updates: &[Update], oid: ObjId) -> Mem<()>
+    requires moves { (id : ℕ) → IsWithin (2 ^ 62) (number_at moves.old id) }
+    requires few { length updates.now < 2 ^ 61 }
+    ensures { OnOk result ((id : ℕ) → number_at moves.new id ≡ number_at moves.old id +ℤ count_of oid id updates.now) }
 {
-    let mut tally = BTreeMap::new(alloc);
-    for (id, number) in base {
-        tally.insert(*id, *number)?;
+    for update in updates {
+        take_in(moves, update, oid)?;
     }
-    Ok(tally)
+    Ok(())
 }
 
 /// The count of an id that had the count `base`, after the updates.

@@ -1,15 +1,11 @@
 -- What a vector sees of the rows that what is held spells, and what the rows of one transaction more are.
-use Rattle.std.proofs.Common.{◌≡◌, ℕ, Bool, true, false, cond, nat_le, List, [], ◌∷◌, ◌++◌, length, map, filter, flat_map, All, Option, Some, None, refl, ap, sym, ◌∙◌, subst, if◌then◌else◌}
+use Rattle.std.proofs.Common.{◌≡◌, ℕ, Bool, true, false, cond, nat_le, List, [], ◌∷◌, ◌++◌, length, map, filter, flat_map, Option, Some, refl, ap, sym, ◌∙◌, subst, if◌then◌else◌}
 use Rattle.std.specs.Prelude.{pos, ◌-ℤ◌, count_by}
-use Rattle.std.specs.FinMap.{get}
 use Rattle.std.specs.List.{list_any}
-use Rattle.std.specs.Option.{option_map_or}
 use Rattle.std.proofs.lemmas.Grind.{flat_map-append}
 use Rattle.std.proofs.lemmas.List.{map-append, append-nil}
-use Rattle.std.proofs.lemmas.List.Elements.{All-head, All-tail, filter-append}
+use Rattle.std.proofs.lemmas.List.Elements.{filter-append}
 use Rattle.std.proofs.lemmas.List.Sums.{length-filter}
-use Rattle.walter_base.specs.declared.catalog.Catalog.{Catalog}
-use Rattle.walter_base.specs.declared.names.Kind.TheVariants.{Regular, Cset}
 use Rattle.walter_base.specs.declared.names.ObjId.{ObjId}
 use Rattle.walter_base.specs.declared.names.Version.{Version}
 use Rattle.walter_base.specs.declared.update.Row.{Row}
@@ -18,13 +14,11 @@ use Rattle.walter_base.specs.declared.update.Update.TheVariants.{Write, Add, Del
 use Rattle.walter_base.specs.Names.{same_object}
 use Rattle.walter_base.specs.Values.{value_from, count_of, adds, takes, write_set}
 use Rattle.walter_base.specs.Vectors.{entry_at}
-use Rattle.walter_base.specs.declared.containers.Container.{Container}
-use Rattle.walter_base.specs.declared.names.Kind.{Kind}
-use Rattle.walter_base.proofs.NameTests.{both, same_object-true, same_object_refl}
-use Rattle.walter_history.specs.Rows.{sees_row, seen_updates, first_unseen}
-use Rattle.walter_rows.specs.Rows.{row_with, rows_from, changes, rows_on, rows_in, HasDeclared}
+use Rattle.walter_base.proofs.NameTests.{same_object-true, same_object_refl}
+use Rattle.walter_history.specs.Kept.{is_write, writes_in, versions_in}
+use Rattle.walter_history.specs.Rows.{sees_row, seen_updates}
+use Rattle.walter_rows.specs.Rows.{row_with, rows_from, changes, rows_on, rows_in}
 use Rattle.walter_base.specs.Conflicts.{first_outside}
-use Rattle.walter_rules.specs.Declarations.{is_of_kind, are_declared, same_kind}
 use Rattle.walter_rules.specs.Log.{version_of, wrote, row}
 use Rattle.walter_rules.specs.declared.held.Held.{Held}
 use Rattle.walter_rules.specs.Log.{sees}
@@ -132,83 +126,74 @@ turned_too a b is = elim (same_object b a) as (λ t. same_object b a ≡ t → t
   | false ↦ λ no. refl
 ] refl
 
-of_one : (o : Option Container) → option_map_or (λ c. same_kind c.kind Regular) o false ≡ true
-    → option_map_or (λ c. same_kind c.kind Cset) o false ≡ true → ⊥
-of_one None regular cset = cc
-of_one (Some c) regular cset = by c.kind regular cset
-  where
-    by : (k : Kind) → same_kind k Regular ≡ true → same_kind k Cset ≡ true → ⊥
-    by Regular regular cset = cc
-    by Cset regular cset = cc
-
--- a set isn't a regular object
-not_both : (catalog : Catalog) (oid at : ObjId) → is_of_kind catalog Regular oid ≡ true → is_of_kind catalog Cset at ≡ true → same_object at oid ≡ true → ⊥
-not_both catalog oid at regular cset same =
-    of_one (get catalog.containers oid.container) regular
-    (subst (λ (o : ObjId). is_of_kind catalog Cset o ≡ true) (same_object-true at oid same) cset)
-
--- the rows of a transaction that a vector doesn't see: the first of them has its version
-first_of_unseen : (catalog : Catalog) (v : List ℕ) (oid : ObjId) (version : Version) (updates : List Update) (others : List Row)
-    → is_of_kind catalog Regular oid ≡ true → are_declared catalog updates ≡ true
+-- the writes among the rows of a transaction that a vector doesn't see: the first of them has its version
+first_of_unseen : (v : List ℕ) (oid : ObjId) (version : Version) (updates : List Update) (others : List Version)
     → nat_le version.seq (entry_at v version.site) ≡ false
-    → first_unseen v (rows_on oid (map (row_with version) updates) ++ others)
-    ≡ (if list_any (same_object oid) (write_set updates) then Some version else first_unseen v others)
-first_of_unseen catalog v oid version [] others regular declared unseen = refl
-first_of_unseen catalog v oid version (Write at bytes ∷ us) others regular declared unseen =
-    let rest = first_of_unseen catalog v oid version us others regular (both _ _ declared).1 unseen in
+    → first_outside v (versions_in (rows_on oid (map (row_with version) updates)) ++ others)
+    ≡ (if list_any (same_object oid) (write_set updates) then Some version else first_outside v others)
+first_of_unseen v oid version [] others unseen = refl
+first_of_unseen v oid version (Write at bytes ∷ us) others unseen =
+    let rest = first_of_unseen v oid version us others unseen in
     let behind = rows_on oid (map (row_with version) us) in
-    elim (same_object at oid) as (λ b. same_object at oid ≡ b → first_unseen v (cond b (row_with version (Write at bytes) ∷ behind) behind ++ others)
-    ≡ (if list_any (same_object oid) (at ∷ write_set us) then Some version else first_unseen v others)) [
+    elim (same_object at oid) as (λ b. same_object at oid ≡ b → first_outside v (versions_in (cond b (row_with version (Write at bytes) ∷ behind) behind) ++ others)
+    ≡ (if list_any (same_object oid) (at ∷ write_set us) then Some version else first_outside v others)) [
       | true ↦ λ is. rw (unseen, turned at oid is) refl
       | false ↦ λ is. rw (turned_too at oid is) rest
     ] refl
-first_of_unseen catalog v oid version (Add at id ∷ us) others regular declared unseen =
-    let rest = first_of_unseen catalog v oid version us others regular (both _ _ declared).1 unseen in
+first_of_unseen v oid version (Add at id ∷ us) others unseen =
+    let rest = first_of_unseen v oid version us others unseen in
     let behind = rows_on oid (map (row_with version) us) in
-    elim (same_object at oid) as (λ b. same_object at oid ≡ b → first_unseen v (cond b (row_with version (Add at id) ∷ behind) behind ++ others)
-    ≡ (if list_any (same_object oid) (write_set us) then Some version else first_unseen v others)) [
-      | true ↦ λ is. absurd (not_both catalog oid at regular (both _ _ declared).0 is)
-      | false ↦ λ is. rest
-    ] refl
-first_of_unseen catalog v oid version (Del at id ∷ us) others regular declared unseen =
-    let rest = first_of_unseen catalog v oid version us others regular (both _ _ declared).1 unseen in
+    elim (same_object at oid) as (λ b. first_outside v (versions_in (cond b (row_with version (Add at id) ∷ behind) behind) ++ others)
+    ≡ (if list_any (same_object oid) (write_set us) then Some version else first_outside v others)) [ true ↦ rest | false ↦ rest ]
+first_of_unseen v oid version (Del at id ∷ us) others unseen =
+    let rest = first_of_unseen v oid version us others unseen in
     let behind = rows_on oid (map (row_with version) us) in
-    elim (same_object at oid) as (λ b. same_object at oid ≡ b → first_unseen v (cond b (row_with version (Del at id) ∷ behind) behind ++ others)
-    ≡ (if list_any (same_object oid) (write_set us) then Some version else first_unseen v others)) [
-      | true ↦ λ is. absurd (not_both catalog oid at regular (both _ _ declared).0 is)
-      | false ↦ λ is. rest
-    ] refl
+    elim (same_object at oid) as (λ b. first_outside v (versions_in (cond b (row_with version (Del at id) ∷ behind) behind) ++ others)
+    ≡ (if list_any (same_object oid) (write_set us) then Some version else first_outside v others)) [ true ↦ rest | false ↦ rest ]
 
 -- those of one that it sees are passed over
-first_of_seen : (v : List ℕ) (oid : ObjId) (version : Version) (updates : List Update) (others : List Row) → nat_le version.seq (entry_at v version.site) ≡ true
-    → first_unseen v (rows_on oid (map (row_with version) updates) ++ others) ≡ first_unseen v others
+first_of_seen : (v : List ℕ) (oid : ObjId) (version : Version) (updates : List Update) (others : List Version) → nat_le version.seq (entry_at v version.site) ≡ true
+    → first_outside v (versions_in (rows_on oid (map (row_with version) updates)) ++ others) ≡ first_outside v others
 first_of_seen v oid version [] others seen = refl
-first_of_seen v oid version (u ∷ us) others seen =
+first_of_seen v oid version (Write at bytes ∷ us) others seen =
     let rest = first_of_seen v oid version us others seen in
     let behind = rows_on oid (map (row_with version) us) in
-    elim (changes oid u) as (λ b. first_unseen v (cond b (row_with version u ∷ behind) behind ++ others) ≡ first_unseen v others) [
+    elim (same_object at oid) as (λ b. first_outside v (versions_in (cond b (row_with version (Write at bytes) ∷ behind) behind) ++ others) ≡ first_outside v others) [
       | true ↦ rw seen rest
       | false ↦ rest
     ]
+first_of_seen v oid version (Add at id ∷ us) others seen =
+    let rest = first_of_seen v oid version us others seen in
+    let behind = rows_on oid (map (row_with version) us) in
+    elim (same_object at oid) as (λ b. first_outside v (versions_in (cond b (row_with version (Add at id) ∷ behind) behind) ++ others) ≡ first_outside v others) [ true ↦ rest | false ↦ rest ]
+first_of_seen v oid version (Del at id ∷ us) others seen =
+    let rest = first_of_seen v oid version us others seen in
+    let behind = rows_on oid (map (row_with version) us) in
+    elim (same_object at oid) as (λ b. first_outside v (versions_in (cond b (row_with version (Del at id) ∷ behind) behind) ++ others) ≡ first_outside v others) [ true ↦ rest | false ↦ rest ]
 
--- the first version of a regular object that a vector doesn't see
-pub first_held : (catalog : Catalog) (v : List ℕ) (oid : ObjId) (log : List Held) → is_of_kind catalog Regular oid ≡ true
-    → All (HasDeclared catalog) log → first_unseen v (rows_in oid log) ≡ first_outside v (map version_of (row oid log))
-first_held catalog v oid [] regular declared = refl
-first_held catalog v oid (h ∷ hs) regular declared =
-    let others = first_held catalog v oid hs regular (All-tail (HasDeclared catalog) h hs declared) in
+versions_on : (oid : ObjId) (h : Held) (hs : List Held) → versions_in (rows_in oid (h ∷ hs)) ≡ versions_in (rows_on oid (rows_from h)) ++ versions_in (rows_in oid hs)
+versions_on oid h hs =
+    let whole = filter-append (λ r. changes oid r.update) (rows_from h) (flat_map rows_from hs) in
+    ap versions_in whole
+    ∙ ap (λ rs. map (λ (r : Row). r.version) rs) (filter-append (λ r. is_write r.update) (rows_on oid (rows_from h)) (rows_in oid hs))
+    ∙ map-append (λ (r : Row). r.version) (writes_in (rows_on oid (rows_from h))) (writes_in (rows_in oid hs))
+
+-- the first version of an object's writes that a vector doesn't see
+pub first_held : (v : List ℕ) (oid : ObjId) (log : List Held) → first_outside v (versions_in (rows_in oid log)) ≡ first_outside v (map version_of (row oid log))
+first_held v oid [] = refl
+first_held v oid (h ∷ hs) =
+    let others = first_held v oid hs in
     let rest = map version_of (row oid hs) in
-    ap (first_unseen v) (filter-append (λ r. changes oid r.update) (rows_from h) (flat_map rows_from hs))
-    ∙ elim (sees v h) as (λ b. sees v h ≡ b → first_unseen v (rows_on oid (rows_from h) ++ rows_in oid hs)
+    ap (first_outside v) (versions_on oid h hs)
+    ∙ elim (sees v h) as (λ b. sees v h ≡ b → first_outside v (versions_in (rows_on oid (rows_from h)) ++ versions_in (rows_in oid hs))
     ≡ first_outside v (map version_of (row oid (h ∷ hs)))) [
-      | true ↦ λ is. first_of_seen v oid (version_of h) h.tx.updates (rows_in oid hs) is ∙ others
+      | true ↦ λ is. first_of_seen v oid (version_of h) h.tx.updates (versions_in (rows_in oid hs)) is ∙ others
           ∙ elim (wrote oid h) as (λ w. first_outside v rest ≡ first_outside v (map version_of (cond w (h ∷ row oid hs) (row oid hs)))) [
             | true ↦ rw is refl
             | false ↦ refl
           ]
-      | false ↦ λ is. first_of_unseen catalog v oid (version_of h) h.tx.updates (rows_in oid hs) regular
-          (All-head (HasDeclared catalog) h hs declared) is
-          ∙ elim (wrote oid h) as (λ w. (if w then Some (version_of h) else first_unseen v (rows_in oid hs))
+      | false ↦ λ is. first_of_unseen v oid (version_of h) h.tx.updates (versions_in (rows_in oid hs)) is
+          ∙ elim (wrote oid h) as (λ w. (if w then Some (version_of h) else first_outside v (versions_in (rows_in oid hs)))
           ≡ first_outside v (map version_of (cond w (h ∷ row oid hs) (row oid hs)))) [
             | true ↦ rw is refl
             | false ↦ others

@@ -1,2 +1,3 @@
+pub mod Committed
 pub mod HeldRows
 pub mod ReadRows

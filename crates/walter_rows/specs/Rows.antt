@@ -1,5 +1,5 @@
 -- The rows that a log spells: for each update one, with the version of its transaction.
-use Rattle.std.specs.Prelude.{◌≡◌, ℕ, ◌≤◌, Bool, List, [], map, filter, flat_map, count_by, All, IsTrue, Option, Some, None}
+use Rattle.std.specs.Prelude.{◌≡◌, ℕ, ◌≤◌, Bool, List, [], map, filter, flat_map, count_by, All, IsTrue}
 use Rattle.walter_base.specs.declared.catalog.Catalog.{Catalog}
 use Rattle.walter_base.specs.declared.message.Record.{Record}
 use Rattle.walter_base.specs.declared.message.Record.TheVariants.{Own, Got}
@@ -8,8 +8,10 @@ use Rattle.walter_base.specs.declared.names.Version.{Version}
 use Rattle.walter_base.specs.declared.update.Row.{Row}
 use Rattle.walter_base.specs.declared.update.Update.{Update}
 use Rattle.walter_base.specs.Names.{same_object}
-use Rattle.walter_history.specs.Lines.{Line, rows_of, room_of}
-use Rattle.walter_base.specs.Values.{object_of}
+use Rattle.walter_cset.specs.Totals.{Table as Totals, total_of}
+use Rattle.walter_history.specs.Kept.{StandsForRows}
+use Rattle.walter_history.specs.Lines.{Table, kept_of, room_of}
+use Rattle.walter_base.specs.Values.{object_of, count_of}
 use Rattle.walter_rules.specs.declared.held.Held.{Held}
 use Rattle.walter_rules.specs.Declarations.{are_declared}
 use Rattle.walter_rules.specs.Log.{version_of, sees}
@@ -44,19 +46,28 @@ rows_in oid log = rows_on oid (flat_map rows_from log)
 abbrev pub HasDeclared : Catalog → Held → Type 0
 HasDeclared catalog h = IsTrue (are_declared catalog h.tx.updates)
 
--- the history has the rows that the log spells, of objects that are declared
-pub record AreRowsOf (catalog : Catalog) (log : List Held) (history : List (ObjId × Line)) : Type 0 where
-  pub same : (oid : ObjId) → rows_of history oid ≡ rows_in oid log
+-- what the history keeps stands for the rows that the log spells, of objects that are declared
+pub record AreRowsOf (catalog : Catalog) (log : List Held) (history : Table) : Type 0 where
+  pub stand : (oid : ObjId) → StandsForRows oid history.floor (kept_of history oid) (rows_in oid log)
   pub declared : All (HasDeclared catalog) log
 
 -- the updates of what a vector sees of the log, in order
 abbrev pub seen_in : List ℕ → List Held → List Update
 seen_in vector log = flat_map (λ h. h.tx.updates) (filter (sees vector) log)
 
+-- each count is that of what the vector sees of the log
+abbrev pub AreTotalsOf : List ℕ → List Held → Totals → Type 0
+AreTotalsOf vector log totals = (oid : ObjId) (id : ℕ) → total_of totals oid id ≡ count_of oid id (seen_in vector log)
+
+-- of the log a vector sees what another sees
+abbrev pub SeesAlike : List ℕ → List ℕ → List Held → Type 0
+SeesAlike before after log = All (λ h. sees after h ≡ sees before h) log
+
 -- how many of the updates change the object
 abbrev pub count_on : ObjId → List Update → ℕ
 count_on oid updates = count_by (changes oid) updates
 
 -- the history has room for the updates of each of their objects
-abbrev pub HaveRoom : List (ObjId × Line) → List Update → Type 0
-HaveRoom history updates = All (λ update. count_on (object_of update) updates ≤ room_of history (object_of update)) updates
+abbrev pub HaveRoom : Table → List Update → Type 0
+HaveRoom history updates =
+    All (λ update. count_on (object_of update) updates ≤ room_of history (object_of update)) updates

@@ -1,10 +1,15 @@
-ghost use Rattle.std.specs.Prelude.{◌≡◌, ◌++◌, map, IfOk, OnOk};
+ghost use Rattle.std.specs.Prelude.{◌≡◌, ◌++◌, ◌∷◌, [], List, map, IfOk, OnOk};
+ghost use Rattle.walter_base.specs.declared.catalog.Catalog.{Catalog};
 ghost use Rattle.walter_base.specs.declared.names.ObjId.{ObjId as Object};
-ghost use Rattle.walter_history.specs.Lines.{rows_of};
-ghost use Rattle.walter_rows.specs.Rows.{row_with, rows_told, rows_on, count_on, HaveRoom};
+ghost use Rattle.walter_base.specs.declared.update.Row.{Row as Told};
+ghost use Rattle.walter_history.specs.Kept.{StandsForRows, IsFoldedAt};
+ghost use Rattle.walter_history.specs.Lines.{kept_of};
+ghost use Rattle.walter_rows.specs.Rows.{row_with, rows_from, rows_told, rows_on, count_on, AreRowsOf, HasDeclared, HaveRoom};
+ghost use Rattle.walter_rules.specs.declared.held.Held.{Held};
+ghost use Rattle.walter_base.specs.Vectors.{Covers};
 
 use std::alloc::Global;
-use walter_base::{Mem, ObjId, Record, Row, Update, Version};
+use walter_base::{Mem, ObjId, Record, Row, Update, Version, Vts};
 use walter_history::History;
 
 /// The updates as rows of the version.
@@ -48,7 +53,8 @@ fn count_on(oid: ObjId, updates: &[Update]) -> u64
 /// Makes room for the rows of the updates.
 pub fn make_room(history: &mut History, updates: &[Update]) -> Mem<()>
     ensures room { OnOk result (HaveRoom history.new updates.now) }
-    ensures rows { (oid : Object) → rows_of history.new oid ≡ rows_of history.old oid }
+    ensures kept { (oid : Object) → kept_of history.new oid ≡ kept_of history.old oid }
+    ensures floor { history.new.floor ≡ history.old.floor }
 {
     // A transaction has at most 256 updates, so counting anew at each of them is at most 256² comparisons, and takes no
     // memory.
@@ -62,9 +68,25 @@ pub fn make_room(history: &mut History, updates: &[Update]) -> Mem<()>
 /// Puts each row behind the others of its object, without taking memory.
 pub fn append_all(history: &mut History, rows: Vec<Row>)
     requires { HaveRoom history.old (map (λ row. row.update) rows.items) }
-    ensures { (oid : Object) → rows_of history.new oid ≡ rows_of history.old oid ++ rows_on oid rows.items }
+    ensures stands { (oid : Object) (told : List Told)
+        → StandsForRows oid history.old.floor (kept_of history.old oid) told
+        → StandsForRows oid history.old.floor (kept_of history.new oid) (told ++ rows_on oid rows.items) }
+    ensures held { (catalog : Catalog) (log : List Held) (h : Held) → rows.items ≡ rows_from h → HasDeclared catalog h
+        → AreRowsOf catalog log history.old → AreRowsOf catalog (log ++ h ∷ []) history.new }
+    ensures floor { history.new.floor ≡ history.old.floor }
 {
     for row in rows {
         history.append(row.update.object(), row);
     }
+}
+
+/// Folds at the floor what each reader sees, without taking memory: reads from there on ask for vectors that cover it.
+pub fn fold(history: &mut History, floor: &Vts)
+    requires { Covers floor.now history.old.floor }
+    ensures rows { (catalog : Catalog) (log : List Held) → AreRowsOf catalog log history.old
+        → AreRowsOf catalog log history.new }
+    ensures folded { (oid : Object) → IsFoldedAt floor.now (kept_of history.new oid) }
+    ensures floor { history.new.floor ≡ floor.now }
+{
+    history.fold(floor);
 }

@@ -1,6 +1,6 @@
 use Rattle.std.proofs.Common.{◌≡◌, drop}
-use Rattle.walter_history.specs.Rows.{first_unseen}
+use Rattle.walter_base.specs.Conflicts.{first_outside}
 use Rattle.walter_history.proofs.rows.all_seen.Given as goal
 
-abbrev pub invariant-loop-row : goal.invariant-loop-row
-invariant-loop-row l = first_unseen l.by (drop l.row-index l.rows) ≡ first_unseen l.by l.rows
+abbrev pub invariant-loop-version : goal.invariant-loop-version
+invariant-loop-version l = first_outside l.by (drop l.version-index l.versions) ≡ first_outside l.by l.versions

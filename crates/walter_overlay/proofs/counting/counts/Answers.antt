@@ -1,35 +1,34 @@
-use Rattle.std.proofs.Common.{◌∙◌, ap, arith}
+use Rattle.std.proofs.Common.{◌≡◌, Result, Ok, Err, IfOk, sym, subst, arith}
 use Rattle.std.proofs.lemmas.Int.{ints}
-use Rattle.std.proofs.lemmas.List.{take_all}
-use Rattle.walter_cset.specs.Tallies.{number_at}
-use Rattle.walter_cset.proofs.Steps.{count_next}
+use Rattle.walter_cset.specs.Tallies.{number_at, number_in}
 use Rattle.walter_cset.proofs.Numbers.{same_numbers}
-use Rattle.walter_overlay.specs.Overlays.{count_in, count_over}
-use Rattle.walter_overlay.proofs.Room.{room_left}
-use Rattle.walter_overlay.proofs.Bases.{number_in, modest_in}
+use Rattle.walter_cset.proofs.Steps.{low_count, high_count}
+use Rattle.walter_overlay.specs.Laying.{IsRisingFrom}
+use Rattle.walter_overlay.proofs.Laid.{number_shown, rising_pairs}
 use Rattle.walter_overlay.proofs.counting.counts.Goals as goal
 
-pub take_in-requires : goal.take_in-requires
-take_in-requires c = λ id.
-    let room = room_left (count_in c.args.base.now id) c.args.oid id c.args.updates.now c.loop-update.update-index
-    (modest_in c.args.base.now id c.requires.modest) c.requires.few c.loop-update-test.true in
-    let is = c.loop-update.invariant id in
-    (omega (arith, ints, room.0, is), omega (arith, ints, room.1, is))
+pub laid-requires-clause-rising : goal.laid-requires-clause-rising
+laid-requires-clause-rising c = subst (IsRisingFrom 0) (sym c.as_slice.ensures) (rising_pairs _ c.in_ok-changes.ensures.rising)
 
-pub loop-update-preserved : goal.loop-update-preserved
-loop-update-preserved c = λ id.
-    let more = count_next c.args.oid id c.args.updates.now c.loop-update.update-index c.update-item.result c.loop-update-test.true c.update-item.is in
-    let taken = c.in_ok-take_in.ensures id in
-    let before = c.loop-update.invariant id in
-    omega (arith, ints, more, taken, before)
+pub laid-requires-clause-fits : goal.laid-requires-clause-fits
+laid-requires-clause-fits c = λ id.
+    let shown : number_in c.as_slice.result.now id ≡ number_at c.take_own.new.moves id =
+    subst (λ es. number_in es id ≡ number_at c.take_own.new.moves id) (sym c.as_slice.ensures) (number_shown (number_at c.take_own.new.moves) c.in_ok-changes.changes id c.in_ok-changes.ensures) in
+    let taken = c.in_ok-take_own.ensures id in
+    let base = c.requires.base id in
+    let moves = c.requires.moves id in
+    let low = low_count c.args.oid id c.args.updates.now in
+    let high = high_count c.args.oid id c.args.updates.now in
+    (omega (arith, ints, shown, taken, base.0, moves.0, low, c.requires.few), omega (arith, ints, shown, taken, base.1, moves.1, high, c.requires.few))
 
-pub loop-update-init : goal.loop-update-init
-loop-update-init c = λ id.
-    let is = number_in c.in_ok-tally.tally c.args.base.now id (c.in_ok-tally.ensures ∙ c.as_slice.ensures) in
-    omega (arith, ints, is)
+each_ok : {X E : Type 0} (P Q : X → Type 0) (r : Result X E) → ((x : X) → P x → Q x) → IfOk r P → IfOk r Q
+each_ok P Q (Ok x) gives is = gives x is
+each_ok P Q (Err e) gives is = tt
 
 pub returns : goal.returns
 returns c =
-    let updates = c.args.updates.now in
-    same_numbers (number_at c.loop-update.tally) (count_over c.args.base.now c.args.oid updates) c.in_ok-counts.counts
-    (λ id. c.loop-update.invariant id ∙ ap (λ us. count_over c.args.base.now c.args.oid us id) (take_all c.loop-update.update-index updates c.loop-update-test.false)) c.in_ok-counts.ensures
+    each_ok _ _ c.laid.result (λ counts are. same_numbers _ _ counts (λ id.
+    let shown : number_in c.as_slice.result.now id ≡ number_at c.take_own.new.moves id =
+    subst (λ es. number_in es id ≡ number_at c.take_own.new.moves id) (sym c.as_slice.ensures) (number_shown (number_at c.take_own.new.moves) c.in_ok-changes.changes id c.in_ok-changes.ensures) in
+    let taken = c.in_ok-take_own.ensures id in
+    omega (arith, ints, shown, taken)) are) c.laid.ensures

@@ -1,28 +1,32 @@
-use Rattle.std.proofs.Common.{◌≡◌, ℕ, ◌+◌, ◌-◌, ◌<◌, ◌≤◌, Bool, true, false, cond, List, [], ◌∷◌, ◌++◌, length, map, get_or, take, drop, refl, sym, ap, ◌∙◌, subst, arith, rules, if◌then◌else◌}
+use Rattle.std.proofs.Common.{◌≡◌, ℕ, ◌+◌, ◌<◌, ◌≤◌, Bool, true, false, cond, List, [], ◌∷◌, ◌++◌, length, map, get_or, take, drop, refl, sym, ap, ◌∙◌, subst, arith, rules, if◌then◌else◌}
 use Rattle.std.proofs.lemmas.Iterator.Adapters.{YieldsList-from_vec}
-use Rattle.std.proofs.lemmas.Iterator.Consumers.{YieldsList-turn}
-use Rattle.std.proofs.lemmas.List.{append-nil, append_assoc, at_drop_more, length_push, take_more}
-use Rattle.std.proofs.lemmas.List.Elements.{All-head, All-tail, All-weaker, filter-append}
+use Rattle.std.proofs.lemmas.Iterator.Consumers.{YieldsList-turn, YieldsList-end}
+use Rattle.std.proofs.lemmas.List.{take_all, append-nil, append_assoc, at_drop_more, length_push, take_more}
+use Rattle.std.proofs.lemmas.List.Elements.{All-push, All-head, All-tail, All-weaker, filter-append}
 use Rattle.std.proofs.lemmas.List.Sums.{sum_by-cons}
 use Rattle.walter_base.specs.declared.names.ObjId.{ObjId}
 use Rattle.walter_base.specs.declared.update.Row.{Row}
 use Rattle.walter_base.specs.declared.update.Update.{Update}
 use Rattle.walter_base.specs.Names.{same_object}
 use Rattle.walter_base.proofs.NameTests.{same_object-true, same_object_refl}
-use Rattle.walter_history.specs.Lines.{Line, rows_of, room_of}
+use Rattle.walter_history.specs.Folded.{appended}
+use Rattle.walter_history.specs.Kept.{StandsForRows}
+use Rattle.walter_history.specs.Lines.{Table, kept_of, room_of}
+use Rattle.walter_history.proofs.Standing.{stands_appended}
 use Rattle.walter_base.specs.Values.{object_of}
-use Rattle.walter_rows.specs.Rows.{changes, rows_on, count_on, HaveRoom}
+use Rattle.walter_rows.specs.Rows.{changes, rows_on, rows_in, count_on, HasDeclared, HaveRoom}
+use Rattle.walter_rows.proofs.HeldRows.{rows_in-push}
 use Rattle.walter_rows.proofs.rows.append_all.Goals as goal
 
 abbrev updates_in : List Row → List Update
 updates_in rows = map (λ (r : Row). r.update) rows
 
 -- the room that one object has is less by one, and the others have theirs
-abbrev IsRoomLess : List (ObjId × Line) → List (ObjId × Line) → ObjId → Type 0
-IsRoomLess old new oid = (other : ObjId) → room_of new other ≡ (if same_object oid other then room_of old oid - 1 else room_of old other)
+abbrev IsRoomLess : Table → Table → ObjId → Type 0
+IsRoomLess old new oid = (other : ObjId) → (if same_object oid other then room_of old oid else room_of old other + 1) ≤ room_of new other + 1
 
 -- the row at a place has room, with those behind it
-room_from : (history : List (ObjId × Line)) (rows : List Row) (n : ℕ) (row : Row) → n < length rows → row ≡ get_or rows n row → HaveRoom history (updates_in (drop n rows))
+room_from : (history : Table) (rows : List Row) (n : ℕ) (row : Row) → n < length rows → row ≡ get_or rows n row → HaveRoom history (updates_in (drop n rows))
     → HaveRoom history (updates_in (row ∷ drop (n + 1) rows))
 room_from history rows n row within is room =
     let here = at_drop_more (λ rs. rs) rows n row within ∙ ap (λ (r : Row). r ∷ drop (n + 1) rows) (sym is) in
@@ -32,7 +36,7 @@ room_from history rows n row within is room =
 counted : (oid : ObjId) (update : Update) (rest : List Update) → count_on oid (update ∷ rest) ≡ cond (changes oid update) 1 0 + count_on oid rest
 counted oid update rest = sum_by-cons (λ (u : Update). cond (changes oid u) 1 0) update rest
 
-room_here : (history : List (ObjId × Line)) (row : Row) (rest : List Row) → HaveRoom history (updates_in (row ∷ rest)) → 0 < room_of history (object_of row.update)
+room_here : (history : Table) (row : Row) (rest : List Row) → HaveRoom history (updates_in (row ∷ rest)) → 0 < room_of history (object_of row.update)
 room_here history row rest room =
     let oid = object_of row.update in
     let updates = updates_in (row ∷ rest) in
@@ -40,16 +44,16 @@ room_here history row rest room =
     let one : count_on oid updates ≡ 1 + count_on oid (updates_in rest) = counted oid row.update (updates_in rest) ∙ ap (λ (b : Bool). cond b 1 0 + count_on oid (updates_in rest)) (same_object_refl oid) in
     omega (arith, first, one)
 
-room_behind : (old new : List (ObjId × Line)) (row : Row) (rest : List Row) → HaveRoom old (updates_in (row ∷ rest)) → IsRoomLess old new (object_of row.update) → HaveRoom new (updates_in rest)
+room_behind : (old new : Table) (row : Row) (rest : List Row) → HaveRoom old (updates_in (row ∷ rest)) → IsRoomLess old new (object_of row.update) → HaveRoom new (updates_in rest)
 room_behind old new row rest room less =
     let Old : Update → Type 0 = λ (u : Update). count_on (object_of u) (updates_in (row ∷ rest)) ≤ room_of old (object_of u) in
     let New : Update → Type 0 = λ (u : Update). count_on (object_of u) (updates_in rest) ≤ room_of new (object_of u) in
     All-weaker Old New one (updates_in rest) (All-tail Old row.update (updates_in rest) room)
   where
-    left : (n m : ℕ) (at : ObjId) → cond (same_object (object_of row.update) at) 1 0 + n ≤ room_of old at → m ≡ (if same_object (object_of row.update) at then room_of old (object_of row.update) - 1 else room_of old at) → n ≤ m
+    left : (n m : ℕ) (at : ObjId) → cond (same_object (object_of row.update) at) 1 0 + n ≤ room_of old at → (if same_object (object_of row.update) at then room_of old (object_of row.update) else room_of old at + 1) ≤ m + 1 → n ≤ m
     left n m at had is = by (same_object (object_of row.update) at) refl had is
       where
-        by : (b : Bool) → same_object (object_of row.update) at ≡ b → cond b 1 0 + n ≤ room_of old at → m ≡ (if b then room_of old (object_of row.update) - 1 else room_of old at) → n ≤ m
+        by : (b : Bool) → same_object (object_of row.update) at ≡ b → cond b 1 0 + n ≤ room_of old at → (if b then room_of old (object_of row.update) else room_of old at + 1) ≤ m + 1 → n ≤ m
         by true same had now = let here = ap (room_of old) (same_object-true (object_of row.update) at same) in omega (arith, had, now, here)
         by false other had now = omega (arith, had, now)
 
@@ -60,14 +64,17 @@ room_behind old new row rest room less =
         left (count_on at (updates_in rest)) (room_of new at) at more (less at)
 
 -- one row more of its object
-rows_more : (old new : List (ObjId × Line)) (row : Row) (oid other : ObjId) → oid ≡ object_of row.update
-    → rows_of new other ≡ (if same_object oid other then rows_of old oid ++ row ∷ [] else rows_of old other) → rows_of new other ≡ rows_of old other ++ rows_on other (row ∷ [])
-rows_more old new row oid other own is =
-    is ∙ by (same_object oid other) refl ∙ ap (λ (at : ObjId). rows_of old other ++ cond (same_object at other) (row ∷ []) []) own
+stands_more : (old new : Table) (row : Row) (oid other : ObjId) (floor : List ℕ) → oid ≡ object_of row.update
+    → kept_of new other ≡ (if same_object oid other then appended row (kept_of old oid) else kept_of old other)
+    → (told : List Row) → StandsForRows other floor (kept_of old other) told → StandsForRows other floor (kept_of new other) (told ++ rows_on other (row ∷ []))
+stands_more old new row oid other floor own is told stands =
+    subst (λ kept. StandsForRows other floor kept (told ++ rows_on other (row ∷ []))) (sym is)
+    (subst (λ (at : ObjId). StandsForRows other floor (if same_object oid other then appended row (kept_of old oid) else kept_of old other) (told ++ cond (same_object at other) (row ∷ []) [])) own
+    (by (same_object oid other) refl))
   where
-    by : (b : Bool) → same_object oid other ≡ b → (if b then rows_of old oid ++ row ∷ [] else rows_of old other) ≡ rows_of old other ++ cond (same_object oid other) (row ∷ []) []
-    by true same = rw same (ap (λ (at : ObjId). rows_of old at ++ row ∷ []) (same_object-true oid other same))
-    by false apart = rw apart (sym (append-nil (rows_of old other)))
+    by : (b : Bool) → same_object oid other ≡ b → StandsForRows other floor (if b then appended row (kept_of old oid) else kept_of old other) (told ++ cond b (row ∷ []) [])
+    by true same = subst (λ (at : ObjId). StandsForRows other floor (appended row (kept_of old at)) (told ++ row ∷ [])) (sym (same_object-true oid other same)) (stands_appended other floor (kept_of old other) told stands row)
+    by false apart = subst (StandsForRows other floor (kept_of old other)) (sym (append-nil told)) stands
 
 rows_on-more : (oid : ObjId) (rows : List Row) (n : ℕ) (row : Row) → n < length rows → row ≡ get_or rows n row → rows_on oid (take (n + 1) rows) ≡ rows_on oid (take n rows) ++ rows_on oid (row ∷ [])
 rows_on-more oid rows n row within is =
@@ -92,10 +99,32 @@ loop-row-preserved c =
     let more : length (c.loop-row.yielded ++ row ∷ []) ≡ n + 1 = length_push c.loop-row.yielded row in
     let room = room_from old rows n row turn.0 turn.1 c.loop-row.invariant.room in
     record {
-      rows = λ oid.
-          rows_more old new row c.object.result oid c.object.ensures (c.append.ensures.rows oid)
-          ∙ ap (λ before. before ++ rows_on oid (row ∷ [])) (c.loop-row.invariant.rows oid)
-          ∙ append_assoc (rows_of c.args.history.now oid) (rows_on oid (take n rows)) (rows_on oid (row ∷ []))
-          ∙ ap (λ behind. rows_of c.args.history.now oid ++ behind) (sym (rows_on-more oid rows n row turn.0 turn.1) ∙ ap (λ k. rows_on oid (take k rows)) (sym more));
+      stands = λ oid told was.
+          subst (StandsForRows oid c.args.history.now.floor (kept_of new oid))
+          (append_assoc told (rows_on oid (take n rows)) (rows_on oid (row ∷ []))
+          ∙ ap (λ behind. told ++ behind) (sym (rows_on-more oid rows n row turn.0 turn.1) ∙ ap (λ k. rows_on oid (take k rows)) (sym more)))
+          (stands_more old new row c.object.result oid c.args.history.now.floor c.object.ensures (c.append.ensures.kept oid) (told ++ rows_on oid (take n rows)) (c.loop-row.invariant.stands oid told was));
+      floor = c.append.ensures.floor ∙ c.loop-row.invariant.floor;
       room = subst (λ k. HaveRoom new (updates_in (drop k rows))) (sym more) (room_behind old new row (drop (n + 1) rows) room (subst (IsRoomLess old new) c.object.ensures c.append.ensures.room));
+    }
+
+pub returns-clause-stands : goal.returns-clause-stands
+returns-clause-stands c = λ oid told was.
+    let rows = c.args.rows.items in
+    let end = YieldsList-end (YieldsList-from_vec rows (search rules) (search rules)) c.loop-row.yielded c.loop-row.row-iterator c.loop-row.yielded_by c.next.result c.next.new.self c.in-None.is c.next.ensures.steps in
+    let all = take_all (length c.loop-row.yielded) rows (omega (arith, end.1)) in
+    subst (λ (rs : List Row). StandsForRows oid c.args.history.now.floor (kept_of c.loop-row.history oid) (told ++ rows_on oid rs)) all (c.loop-row.invariant.stands oid told was)
+
+pub returns-clause-held : goal.returns-clause-held
+returns-clause-held c = λ catalog log h is declared are.
+    let rows = c.args.rows.items in
+    let end = YieldsList-end (YieldsList-from_vec rows (search rules) (search rules)) c.loop-row.yielded c.loop-row.row-iterator c.loop-row.yielded_by c.next.result c.next.new.self c.in-None.is c.next.ensures.steps in
+    let all = take_all (length c.loop-row.yielded) rows (omega (arith, end.1)) in
+    record {
+      stand = λ oid.
+          subst (λ fl. StandsForRows oid fl (kept_of c.loop-row.history oid) (rows_in oid (log ++ h ∷ []))) (sym c.loop-row.invariant.floor)
+          (subst (λ (rs : List Row). StandsForRows oid c.args.history.now.floor (kept_of c.loop-row.history oid) rs)
+          (ap (λ rs. rows_in oid log ++ rows_on oid rs) (all ∙ is) ∙ sym (rows_in-push oid log h))
+          (c.loop-row.invariant.stands oid (rows_in oid log) (are.stand oid)));
+      declared = All-push (HasDeclared catalog) log h are.declared declared;
     }

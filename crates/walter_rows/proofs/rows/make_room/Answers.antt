@@ -22,7 +22,8 @@ loop-update-preserved c =
     let enough : New u = subst (λ (at : ObjId). count_on at updates ≤ room_of new at) c.object-oid.ensures counted in
     record {
       room = All-more New updates i u c.loop-update-test.true (All-weaker Old New wider (take i updates) c.loop-update.invariant.room) (subst New c.update-item.is enough);
-      same = λ oid. c.in_ok-reserve.ensures.rows oid ∙ c.loop-update.invariant.same oid;
+      floor = c.in_ok-reserve.ensures.floor ∙ c.loop-update.invariant.floor;
+      same = λ oid. c.in_ok-reserve.ensures.kept oid ∙ c.loop-update.invariant.same oid;
     }
 
 pub returns-clause-room : goal.returns-clause-room
