@@ -1,6 +1,7 @@
 //! The sessions of clients: at most one each, and at most 256.
 #![tactic(auto)]
 
+mod floors;
 mod session;
 mod sessions;
 mod slot;

@@ -254,7 +254,7 @@ impl Sessions {
     }
 
     /// The session that started at this place in their order.
-    fn at(&self, place: usize) -> Option<&Session>
+    pub(crate) fn at(&self, place: usize) -> Option<&Session>
         ensures { option_map session_view (option_copied result)
             ≡ option_map (λ s. s.1) (slice_get (sessions_of self.entry.now) place) }
     {

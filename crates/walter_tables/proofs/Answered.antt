@@ -55,6 +55,8 @@ sound_answered catalog i K S starts2 sessions2 = record {
     visible = L.visible;
   };
   counted = S.counted;
+  received = S.received;
+  numbered = S.numbered;
   held = S.held;
   begun = S.begun;
   ahead = λ n out.
@@ -75,6 +77,7 @@ stand_answered V K S event outcome wrote starts2 sessions2 starts sessions = rec
   starts = starts;
   log = S.log;
   rows = S.rows;
+  totals = S.totals;
   spread = record { received = S.spread.received; seen = S.spread.seen; durable = S.spread.durable };
   durable = record {
     count = S.durable.count;

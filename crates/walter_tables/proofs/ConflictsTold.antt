@@ -1,45 +1,23 @@
 -- What stands in the way of a commit by the tables is what does by the rules.
-use Rattle.std.proofs.Common.{◌≡◌, ℕ, Bool, true, false, not, cond, List, [], ◌∷◌, map, filter, All, Option, Some, None, refl, ap, sym, ◌∙◌}
-use Rattle.std.specs.Prelude.{◌↔◌, IsTrue, filter_map, slice_get, option_map, Contains}
+use Rattle.std.proofs.Common.{◌≡◌, ℕ, Bool, true, false, List, [], ◌∷◌, map, All, Option, Some, None, refl, ap, sym, ◌∙◌}
+use Rattle.std.specs.Prelude.{◌↔◌, IsTrue, filter_map, slice_get, Contains}
 use Rattle.std.specs.List.{cons_option}
-use Rattle.walter_base.specs.declared.catalog.Catalog.{Catalog}
-use Rattle.walter_base.specs.declared.names.Kind.TheVariants.{Regular}
 use Rattle.walter_base.specs.declared.names.ObjId.{ObjId}
-use Rattle.walter_base.specs.declared.names.SiteId.{SiteId}
 use Rattle.walter_base.specs.declared.names.Tid.{Tid}
 use Rattle.walter_base.specs.declared.names.Version.{Version}
 use Rattle.walter_base.specs.declared.transaction.Conflict.{Conflict}
-use Rattle.walter_base.specs.declared.update.Row.{Row}
-use Rattle.walter_base.specs.Conflicts.{first_outside, sees_version, conflict_over}
-use Rattle.walter_base.proofs.NameTests.{both}
-use Rattle.walter_alone.proofs.TestsPass.{all_of, all_pass}
+use Rattle.walter_base.specs.Conflicts.{first_outside, conflict_over}
+use Rattle.walter_alone.proofs.TestsPass.{all_of}
 use Rattle.walter_decide.specs.Firsts.{conflict_at as conflict_by, first_conflict as first_by}
-use Rattle.walter_history.specs.Lines.{rows_of}
-use Rattle.walter_history.specs.Rows.{sees_row, first_unseen}
 use Rattle.walter_locks.specs.Parts.{owner_of}
-use Rattle.walter_objects.specs.Preferred.{is_lockable_at, are_lockable_at}
 use Rattle.walter_rows.proofs.HeldRows.{first_held}
 use Rattle.walter_rules.specs.Conflicts.{conflict_at, first_conflict}
-use Rattle.walter_rules.specs.Declarations.{is_of_kind}
 use Rattle.walter_rules.specs.Knowledge.{Knowledge}
 use Rattle.walter_rules.specs.Log.{row, version_of}
 use Rattle.walter_rules.specs.Slow.{Part, Free, Locked, Over}
-use Rattle.walter_rules.proofs.Membership.{first_in, later_in, each_passes, none_given}
+use Rattle.walter_rules.proofs.Membership.{first_in, later_in, none_given}
 use Rattle.walter_tables.specs.Standing.{Values, StandFor}
-use Rattle.walter_tables.specs.Versions.{versions_of, are_regular}
-
--- the first version that a vector doesn't see is that of the first row that it doesn't see
-pub first_version : (v : List ℕ) (rows : List Row)
-    → first_outside v (map (λ (r : Row). r.version) rows) ≡ first_unseen v rows
-first_version v [] = refl
-first_version v (r ∷ rs) =
-    let behind = filter (λ (x : Version). not (sees_version v x)) (map (λ (x : Row). x.version) rs) in
-    let rest = filter (λ (x : Row). not (sees_row v x)) rs in
-    elim (sees_row v r) as (λ b. slice_get (cond (not b) (r.version ∷ behind) behind) 0
-    ≡ option_map (λ (x : Row). x.version) (slice_get (cond (not b) (r ∷ rest) rest) 0)) [
-      | true ↦ first_version v rs
-      | false ↦ refl
-    ]
+use Rattle.walter_tables.specs.Versions.{versions_of}
 
 -- two maps with gaps that agree at each element
 same_given : {X Y : Type 0} (f g : X → Option Y) (xs : List X) → ((x : X) → Contains xs x → f x ≡ g x)
@@ -50,26 +28,18 @@ same_given f g (x ∷ xs) same =
     ∙ ap (cons_option (g x)) (same_given f g xs (λ y within. same y (later_in x xs y within)))
 
 module _ (V : Values) (K : Knowledge) (S : StandFor V K) (v : List ℕ) where
-  same_conflict : (oid : ObjId) → is_of_kind V.catalog Regular oid ≡ true
-      → conflict_by (versions_of V.history) (owner_of V.locks) v oid ≡ conflict_at K v oid
-  same_conflict oid regular =
+  same_conflict : (oid : ObjId) → conflict_by (versions_of V.history) (owner_of V.locks) v oid ≡ conflict_at K v oid
+  same_conflict oid =
       ap (λ (first : Option Version). conflict_over oid first (owner_of V.locks oid))
-      (first_version v (rows_of V.history oid) ∙ ap (first_unseen v) (S.rows.same oid)
-      ∙ first_held V.catalog v oid K.log regular S.rows.declared)
+      (ap (first_outside v) (S.rows.stand oid).versions ∙ first_held v oid K.log)
       ∙ ap (conflict_over oid (first_outside v (map version_of (row oid K.log)))) (S.locks.owners oid)
 
-  pub conflict_told : (objects : List ObjId) → are_regular V.catalog objects ≡ true
+  pub conflict_told : (objects : List ObjId)
       → first_by (versions_of V.history) (owner_of V.locks) v objects ≡ first_conflict K v objects
-  conflict_told objects regular =
+  conflict_told objects =
       ap (λ (conflicts : List Conflict). slice_get conflicts 0)
       (same_given (conflict_by (versions_of V.history) (owner_of V.locks) v) (conflict_at K v) objects
-      (λ oid within. same_conflict oid (each_passes (is_of_kind V.catalog Regular) objects oid regular within)))
-
--- what can be locked is regular
-pub lockable_regular : (catalog : Catalog) (i : SiteId) (objects : List ObjId)
-    → are_lockable_at catalog i objects ≡ true → are_regular catalog objects ≡ true
-lockable_regular catalog i objects are = all_pass (is_of_kind catalog Regular) objects
-    (λ oid within. (both _ _ (each_passes (is_lockable_at catalog i) objects oid are within)).0)
+      (λ oid within. same_conflict oid))
 
 -- an object that meets no conflict isn't locked
 not_owned : (oid : ObjId) (first : Option Version) (owner : Option Tid) → conflict_over oid first owner ≡ None

@@ -6,7 +6,9 @@ use Rattle.walter_base.specs.declared.catalog.Catalog.{Catalog}
 use Rattle.walter_base.specs.declared.names.ObjId.{ObjId}
 use Rattle.walter_base.specs.declared.names.SiteId.{SiteId}
 use Rattle.walter_durable.specs.Marks.{unbegun as none_owned}
-use Rattle.walter_history.specs.Lines.{rows_of}
+use Rattle.walter_cset.specs.Totals.{total_of}
+use Rattle.walter_history.specs.Kept.{StandsForRows}
+use Rattle.walter_history.specs.Lines.{kept_of}
 use Rattle.walter_locks.specs.Parts.{part_of, owner_of}
 use Rattle.walter_rows.specs.Rows.{HasDeclared}
 use Rattle.walter_rules.specs.declared.held.TheConstants.{WINDOW}
@@ -46,20 +48,26 @@ fresh_durable catalog site sites tolerated = record {
   visible_floor = refl;
 }
 
-pub fresh_stands : (V : Values) → V.log ≡ [] → V.history ≡ []
+pub fresh_stands : (V : Values) → V.log ≡ [] → V.history ≡ record { floor = replicate V.catalog.sites 0; lines = [] }
+    → V.totals ≡ record { sets = []; taken = 0 }
     → V.spread ≡ none_received V.site V.catalog.sites WINDOW
     → V.durable ≡ none_owned V.site V.catalog.sites V.catalog.tolerated
     → ((j : SiteId) (n : ℕ) → part_of V.locks j n ≡ Free) → ((oid : ObjId) → owner_of V.locks oid ≡ None)
     → V.slow.last ≡ 0 → ((n : ℕ) → commit_of V.slow n ≡ None) → V.sessions ≡ [] → V.epoch ≡ 0 → V.starts ≡ 0
     → StandFor V fresh
-fresh_stands V log history spread durable parts owners last kept sessions epoch starts = record {
+fresh_stands V log history totals spread durable parts owners last kept sessions epoch starts = record {
   epoch = epoch;
   starts = starts;
   log = log;
   rows = record {
-    same = λ oid. ap (λ lines. rows_of lines oid) history;
+    stand = λ oid. subst (λ h. StandsForRows oid h.floor (kept_of h oid) []) (sym history) (record {
+      value = λ v covers. refl;
+      counts = λ v w covers_v covers_w id. refl;
+      versions = refl;
+    });
     declared = All-nil (HasDeclared V.catalog);
   };
+  totals = λ oid id. ap (λ t. total_of t oid id) totals;
   spread = subst (λ S. IsSpreadOf S fresh) (sym spread) (fresh_spread V.site V.catalog.sites WINDOW);
   durable = subst (λ H. IsDurableOf V.catalog V.site H fresh) (sym durable)
       (fresh_durable V.catalog V.site V.catalog.sites V.catalog.tolerated);

@@ -1,3 +1,5 @@
+mod Numbers
+mod CoveredFloors
 pub mod SoundKept
 pub mod Fresh
 pub mod PartsKept
@@ -15,5 +17,4 @@ pub mod ConflictsTold
 pub mod Said
 pub mod PutTold
 mod Voted
-mod Written
 mod Committed

@@ -1,5 +1,5 @@
 -- How each table goes on as what the site knows does.
-use Rattle.std.proofs.Common.{◌≡◌, ◌≢◌, ◌+◌, ◌-◌, ◌≤◌, ◌<◌, ℕ, zero, suc, true, false, Option, Some, None, List, [], ◌∷◌, ◌++◌, length, slice_get, slice_index_or, option_map, refl, ap, sym, ◌∙◌, inl, inr, arith, if◌then◌else◌}
+use Rattle.std.proofs.Common.{◌≡◌, ◌≢◌, ◌+◌, ◌-◌, ◌≤◌, ◌<◌, ℕ, zero, suc, Bool, true, false, Option, Some, None, List, [], ◌∷◌, ◌++◌, length, slice_get, slice_index_or, option_map, refl, ap, sym, ◌∙◌, inl, inr, arith, if◌then◌else◌}
 use Rattle.std.specs.Prelude.{max, slice_set}
 use Rattle.std.proofs.lemmas.List.{get_or-set_same, get_or-set_other, get_or_append_left, length_push}
 use Rattle.std.proofs.Math.Seq.{get_or-append_seam}
@@ -16,7 +16,7 @@ use Rattle.walter_objects.specs.Preferred.{homes_of}
 use Rattle.walter_rules.specs.declared.held.Held.{Held}
 use Rattle.walter_rules.specs.Learning.{one_more, risen, part_over}
 use Rattle.walter_rules.specs.Log.{of_site, commit_at}
-use Rattle.walter_rules.specs.Slow.{Slow, Unused, Undecided, Dropped, Decided, ended, decided, Part, Over, is_slow}
+use Rattle.walter_rules.specs.Slow.{Slow, Unused, Undecided, Dropped, Decided, ended, decided, Part, Free, Locked, Over, is_slow, unlocked}
 use Rattle.walter_agreement.proofs.Cases.{site_cases, slow_cases, low_or}
 use Rattle.walter_slow.specs.Kept.{kept_of, booted}
 use Rattle.walter_tables.specs.Parts.{without_decided, is_free}
@@ -143,3 +143,10 @@ pub free_over : (j i : SiteId) (m n : ℕ) (part : SiteId → ℕ → Part) → 
     → is_free (part_over j m part i n) ≡ true
 free_over j i zero n part apart free = free
 free_over j i (suc m) n part apart free = free_apart j i (suc m) n Over (part i n) apart free
+
+-- and so it does where a lock goes
+pub free_unlocked : (b : Bool) (part : Part) → is_free part ≡ true → is_free (if b then unlocked part else part) ≡ true
+free_unlocked true Free free = refl
+free_unlocked true (Locked tid objects) free = refl
+free_unlocked true Over free = free
+free_unlocked false part free = free

@@ -1,7 +1,7 @@
 -- What a site knows stays sound: behind a record that can follow, behind a reply, and behind what a peer said.
-use Rattle.std.proofs.Common.{◌≡◌, ◌≢◌, ◌+◌, ◌≤◌, ◌<◌, ℕ, nat_eq, Bool, true, false, cond, Option, Some, None, List, [], ◌∷◌, ◌++◌, length, All, refl, ap, sym, ◌∙◌, subst, inl, inr, arith, if◌then◌else◌}
+use Rattle.std.proofs.Common.{◌≡◌, ◌≢◌, ◌+◌, ◌≤◌, ◌<◌, ℕ, nat_eq, Bool, true, false, cond, Option, Some, None, List, [], ◌∷◌, ◌++◌, length, map, All, refl, ap, sym, ◌∙◌, subst, inl, inr, arith, if◌then◌else◌}
 use Rattle.std.proofs.lemmas.Bool.{eqb-true, eq-eqb}
-use Rattle.std.proofs.lemmas.List.{append-nil, length_push}
+use Rattle.std.proofs.lemmas.List.{append-nil, length_push, map-append}
 use Rattle.std.proofs.lemmas.List.Elements.{All-push, All-nil, filter-append}
 use Rattle.walter_base.specs.declared.catalog.Catalog.{Catalog}
 use Rattle.walter_base.specs.declared.message.Record.{Record}
@@ -19,8 +19,8 @@ use Rattle.walter_rules.specs.declared.event.Input.TheVariants.{Call, Deliver, A
 use Rattle.walter_rules.specs.declared.held.Held.{Held}
 use Rattle.walter_rules.specs.declared.outcome.Outcome.{Outcome}
 use Rattle.walter_rules.specs.declared.outcome.Outcome.TheVariants.{Replied, Taken, Passed, Failed, Full, Memory, Down, Refused}
-use Rattle.walter_rules.specs.Knowledge.{Knowledge, fresh}
-use Rattle.walter_rules.specs.Learning.{recorded, after, one_more, slow_after, log_after, committed_after, last_after, heard_of, said_yes_after, said_no_after, said_released_after}
+use Rattle.walter_rules.specs.Knowledge.{Knowledge, fresh, from_to}
+use Rattle.walter_rules.specs.Learning.{recorded, after, one_more, slow_after, log_after, committed_after, last_after, heard_of, said_yes_after, said_no_after, said_released_after, got_after}
 use Rattle.walter_rules.specs.Log.{of_site, is_of}
 use Rattle.walter_rules.specs.Objects.{participants}
 use Rattle.walter_rules.specs.Records.{CanFollow, IsRecordAmong}
@@ -28,6 +28,7 @@ use Rattle.walter_rules.specs.Slow.{Slow, Unused, Undecided, Dropped, Decided, e
 use Rattle.walter_rules.proofs.RuleTests.{peer_true}
 use Rattle.walter_agreement.proofs.Cases.{site_cases, ended_not_undecided, dropped_not_open}
 use Rattle.walter_alone.proofs.Learned.{learned_fresh, learned_recorded, learned_after}
+use Rattle.walter_tables.proofs.Numbers.{seqs, seqs_length, run_more}
 use Rattle.walter_tables.specs.Sound.{HoldsTx, IsAsking, IsSound, HasDropped, IsHeardOf}
 
 -- at first
@@ -35,6 +36,8 @@ pub sound_fresh : (catalog : Catalog) (i : SiteId) → IsSound catalog i fresh
 sound_fresh catalog i = record {
   learned = learned_fresh catalog i;
   counted = refl;
+  received = λ j. omega arith;
+  numbered = λ j. refl;
   held = All-nil (HoldsTx catalog);
   begun = λ n low high. absurd (omega (arith, low, high));
   ahead = λ n out. record { unused = refl; yes = refl; no = refl; released = refl };
@@ -113,6 +116,79 @@ module _ (catalog : Catalog) (i : SiteId) (below : i.0 < catalog.sites) (K : Kno
   counted_then (SlowBegin n tx) f = S.counted
   counted_then (SlowEnd n) f = S.counted
   counted_then (Marks durable visible) f = S.counted
+
+  -- as many are received of the site itself as it has committed
+  pub own_got : K.got i ≡ K.committed i
+  own_got = sym (seqs_length i K.log (K.got i) (S.numbered i)) ∙ S.counted
+
+  -- a count goes up by one where another does, or where it was less
+  both_more : (j k : SiteId) → one_more j K.committed k ≤ one_more j K.got k
+  both_more j k = by (same_site j k)
+    where
+      by : (b : Bool) → (if b then K.committed k + 1 else K.committed k) ≤ (if b then K.got k + 1 else K.got k)
+      by true = omega (arith, S.received k)
+      by false = S.received k
+
+  one_received : (j k : SiteId) → K.committed k ≤ one_more j K.got k
+  one_received j k = by (same_site j k)
+    where
+      by : (b : Bool) → K.committed k ≤ (if b then K.got k + 1 else K.got k)
+      by true = omega (arith, S.received k)
+      by false = S.received k
+
+  one_seen : (j k : SiteId) → K.committed j + 1 ≤ K.got j → one_more j K.committed k ≤ K.got k
+  one_seen j k less = elim (site_cases j k) [
+    | inl same ↦ subst (λ (n : ℕ). n ≤ K.got k) (sym (ap (λ b. if b then K.committed k + 1 else K.committed k) same.0))
+        (subst (λ (s : SiteId). K.committed s + 1 ≤ K.got s) same.1 less)
+    | inr other ↦ subst (λ (n : ℕ). n ≤ K.got k) (sym (ap (λ b. if b then K.committed k + 1 else K.committed k) other.0))
+        (S.received k)
+  ]
+
+  received_then : (rec : Record) → CanFollow catalog i K rec → (k : SiteId)
+      → committed_after i (Some rec) K.committed k ≤ got_after i (Some rec) K.got k
+  received_then (Own seq tx) f k = both_more i k
+  received_then (Got from seq tx) f k = one_received from k
+  received_then (Seen from seq) f k = one_seen from k (subst (λ (n : ℕ). n ≤ K.got from) f.next f.received)
+  received_then (Boot epoch) f k = S.received k
+  received_then (Prepared from n tid objects) f k = S.received k
+  received_then (Released from n) f k = S.received k
+  received_then (SlowBegin n tx) f k = S.received k
+  received_then (SlowEnd n) f k = S.received k
+  received_then (Marks durable visible) f k = S.received k
+
+  -- one more of a site, whose number is the next
+  numbered_more : (h : Held) (got2 : SiteId → ℕ) → ((j : SiteId) → got2 j ≡ one_more h.tx.tid.site K.got j)
+      → h.seq ≡ K.got h.tx.tid.site + 1 → (j : SiteId) → seqs j (K.log ++ h ∷ []) ≡ from_to 1 (got2 j)
+  numbered_more h got2 gets next j = elim (site_cases h.tx.tid.site j) [
+    | inl same ↦
+        let at = ap K.got same.1 in
+        let more : got2 j ≡ K.got j + 1 = gets j ∙ ap (λ b. if b then K.got j + 1 else K.got j) same.0 in
+        ap (map (λ (g : Held). g.seq)) (own_more j K.log h same.1)
+        ∙ map-append (λ (g : Held). g.seq) (of_site j K.log) (h ∷ [])
+        ∙ (λ t. S.numbered j t ++ (next ∙ ap (λ (n : ℕ). n + 1) at) t ∷ [])
+        ∙ run_more (K.got j) ∙ sym (ap (from_to 1) more)
+    | inr other ↦
+        ap (map (λ (g : Held). g.seq)) (other_more j K.log h other.0) ∙ S.numbered j
+        ∙ sym (ap (from_to 1) (gets j ∙ ap (λ b. if b then K.got j + 1 else K.got j) other.0))
+  ]
+
+  numbered_then : (rec : Record) → CanFollow catalog i K rec
+      → (j : SiteId) → seqs j (log_after (Some rec) K.log) ≡ from_to 1 (got_after i (Some rec) K.got j)
+  numbered_then (Own seq tx) f j =
+      let here = f.here in
+      numbered_more (record { seq = seq; tx = tx }) (one_more i K.got) (λ k. ap (λ (s : SiteId). one_more s K.got k) (sym here))
+      (f.next ∙ ap (λ (n : ℕ). n + 1) (sym own_got) ∙ ap (λ (s : SiteId). K.got s + 1) (sym here)) j
+  numbered_then (Got from seq tx) f j =
+      let sender = f.sender in
+      numbered_more (record { seq = seq; tx = tx }) (one_more from K.got) (λ k. ap (λ (s : SiteId). one_more s K.got k) (sym sender))
+      (f.next ∙ ap (λ (s : SiteId). K.got s + 1) (sym sender)) j
+  numbered_then (Seen from seq) f j = S.numbered j
+  numbered_then (Boot epoch) f j = S.numbered j
+  numbered_then (Prepared from n tid objects) f j = S.numbered j
+  numbered_then (Released from n) f j = S.numbered j
+  numbered_then (SlowBegin n tx) f j = S.numbered j
+  numbered_then (SlowEnd n) f j = S.numbered j
+  numbered_then (Marks durable visible) f j = S.numbered j
 
   held_then : (rec : Record) → CanFollow catalog i K rec → IsRecordAmong catalog.sites rec
       → All (HoldsTx catalog) (log_after (Some rec) K.log)
@@ -231,6 +307,8 @@ module _ (catalog : Catalog) (i : SiteId) (below : i.0 < catalog.sites) (K : Kno
   sound_recorded rec f sizes = record {
     learned = learned_recorded catalog i K S.learned below rec f;
     counted = counted_then rec f;
+    received = received_then rec f;
+    numbered = numbered_then rec f;
     held = held_then rec f sizes;
     begun = begun_then rec f;
     ahead = λ n out.
@@ -333,6 +411,8 @@ pub sound_after : (catalog : Catalog) (i : SiteId) (K : Knowledge) (event : Even
 sound_after catalog i K event outcome wrote S h = record {
   learned = learned_after catalog i K event outcome wrote S.learned;
   counted = S.counted;
+  received = S.received;
+  numbered = S.numbered;
   held = S.held;
   begun = S.begun;
   ahead = λ n out.

@@ -13,6 +13,7 @@ use Rattle.walter_durable.specs.Marks.{Holdings, own, heard as heard_said, with_
 use Rattle.walter_rules.specs.declared.event.Event.TheVariants.{Given}
 use Rattle.walter_rules.specs.declared.event.Input.TheVariants.{Deliver}
 use Rattle.walter_rules.specs.declared.outcome.Outcome.TheVariants.{Taken}
+use Rattle.walter_rows.specs.Rows.{AreTotalsOf}
 use Rattle.walter_rules.specs.Knowledge.{Knowledge}
 use Rattle.walter_rules.specs.Learning.{heard, risen}
 use Rattle.walter_rules.specs.Slow.{Slow, Undecided, Dropped, Decided}
@@ -84,15 +85,16 @@ module _ (V : Values) (K : Knowledge) (S : StandFor V K) (j : SiteId) (number : 
   begun_votes (Release n) news = tt
 
   pub stand_said : (packet : Packet) → IsNewsOf V.site K j packet
-      → (spread2 : Progress) (durable2 : Holdings) (slow2 : SlowCommits)
+      → (spread2 : Progress) (durable2 : Holdings) (slow2 : SlowCommits) → spread2.committed ≡ V.spread.committed
       → IsSpreadOf spread2 (heard_by packet) → IsDurableOf V.catalog V.site durable2 (heard_by packet)
       → AreSlowOf slow2 (heard_by packet)
       → StandFor (record V { spread = spread2; durable = durable2; slow = slow2 }) (heard_by packet)
-  stand_said packet news spread2 durable2 slow2 spread durable slow = record {
+  stand_said packet news spread2 durable2 slow2 same spread durable slow = record {
     epoch = S.epoch;
     starts = S.starts;
     log = S.log;
     rows = S.rows;
+    totals = subst (λ (v : List ℕ). AreTotalsOf v K.log V.totals) (sym same) S.totals;
     spread = spread;
     durable = durable;
     locks = record { parts = S.locks.parts; owners = S.locks.owners };

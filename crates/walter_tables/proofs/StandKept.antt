@@ -1,28 +1,29 @@
 -- Tables that go on as a record says stand for what is known behind it.
-use Rattle.std.proofs.Common.{◌≡◌, ◌≢◌, ◌+◌, ◌<◌, ℕ, zero, suc, nat_eq, true, false, Some, None, List, [], ◌∷◌, ◌++◌, length, option_map, refl, ap, sym, ◌∙◌, subst, inl, inr, arith, if◌then◌else◌}
-use Rattle.std.proofs.lemmas.Bool.{cases_Bool, eqb-true}
+use Rattle.std.proofs.Common.{◌≡◌, ◌≢◌, ◌+◌, ◌-◌, ◌<◌, ℕ, zero, suc, nat_eq, Bool, true, false, Some, None, List, [], ◌∷◌, ◌++◌, length, All, option_map, refl, ap, sym, ◌∙◌, subst, inl, inr, arith, if◌then◌else◌}
+use Rattle.std.proofs.lemmas.Bool.{cases_Bool, eqb-true, leb-true}
 use Rattle.std.proofs.lemmas.List.{length_push}
-use Rattle.std.proofs.lemmas.List.Elements.{All-push}
-use Rattle.walter_base.specs.declared.catalog.Catalog.{Catalog}
+use Rattle.std.proofs.lemmas.List.Elements.{All-weaker}
 use Rattle.walter_base.specs.declared.message.Record.{Record}
 use Rattle.walter_base.specs.declared.message.Record.TheVariants.{Boot, Own, Got, Seen, Prepared, Released, SlowBegin, SlowEnd, Marks}
 use Rattle.walter_base.specs.declared.names.ObjId.{ObjId}
 use Rattle.walter_base.specs.declared.names.SiteId.{SiteId}
 use Rattle.walter_base.specs.declared.names.Tid.{Tid}
 use Rattle.walter_base.specs.declared.transaction.Tx.{Tx}
+use Rattle.walter_base.specs.declared.update.Update.{Update}
 use Rattle.walter_base.specs.Names.{same_site}
 use Rattle.walter_base.specs.Vectors.{entry_at}
 use Rattle.walter_base.proofs.NameTests.{same_site_refl}
 use Rattle.walter_durable.specs.Marks.{Holdings, own, with_own as with_own_kept, with_floors}
-use Rattle.walter_history.specs.Lines.{Line, rows_of}
+use Rattle.walter_cset.specs.Totals.{Table as Totals, total_of}
+use Rattle.walter_history.specs.Lines.{Table as History}
 use Rattle.walter_locks.specs.Parts.{Table as Locks, part_of, owner_of}
 use Rattle.walter_objects.specs.Preferred.{homes_of}
-use Rattle.walter_rows.specs.Rows.{AreRowsOf, HasDeclared, rows_on, rows_from}
-use Rattle.walter_rows.proofs.HeldRows.{rows_in-push}
+use Rattle.walter_rows.specs.Rows.{AreRowsOf, AreTotalsOf, SeesAlike}
+use Rattle.walter_rows.proofs.Committed.{received_only}
 use Rattle.walter_rules.specs.declared.held.Held.{Held}
 use Rattle.walter_rules.specs.Knowledge.{Knowledge, from_to}
 use Rattle.walter_rules.specs.Learning.{recorded, one_more, part_over, freed_over, is_locked_here, slow_number}
-use Rattle.walter_rules.specs.Log.{commit_at}
+use Rattle.walter_rules.specs.Log.{commit_at, sees}
 use Rattle.walter_rules.specs.Objects.{objects_at, participants}
 use Rattle.walter_rules.specs.Records.{CanFollow, IsRecordAmong}
 use Rattle.walter_rules.specs.Slow.{Locked, Over, does_lock, unlocked, is_slow, has_object, Undecided, decided, ended}
@@ -37,16 +38,19 @@ use Rattle.walter_tables.specs.Parts.{IsSpreadOf, IsDurableOf, without_decided, 
 use Rattle.walter_tables.specs.Sound.{IsSound}
 use Rattle.walter_tables.specs.Standing.{Values, StandFor}
 use Rattle.walter_tables.proofs.PartsKept.{one_more_entry, homes_then, other_commits, kept_booted, kept_decided}
-use Rattle.walter_tables.proofs.SoundKept.{sound_recorded}
+use Rattle.walter_tables.proofs.Numbers.{IsOther, IsBetween, all_between, held_once, once_commit, all_as_before, unseen_before, seen_behind}
+use Rattle.walter_tables.proofs.SoundKept.{sound_recorded, own_got}
 
--- the rows of a log with one more
-pub rows_then : (catalog : Catalog) (log : List Held) (h : Held) (old new : List (ObjId × Line)) → AreRowsOf catalog log old
-    → HasDeclared catalog h → ((oid : ObjId) → rows_of new oid ≡ rows_of old oid ++ rows_on oid (rows_from h))
-    → AreRowsOf catalog (log ++ h ∷ []) new
-rows_then catalog log h old new are declared more = record {
-  same = λ oid. more oid ∙ ap (λ rows. rows ++ rows_on oid (rows_from h)) (are.same oid) ∙ sym (rows_in-push oid log h);
-  declared = All-push (HasDeclared catalog) log h are.declared declared;
-}
+-- what the counts of sets are moved by: an own commit, which the log gets, and one that is held already
+abbrev pub CountsOwn : List Update → Totals → Totals → Type 0
+CountsOwn updates old new = (before after : List ℕ) (log : List Held) (h : Held) → h.tx.updates ≡ updates
+    → SeesAlike before after log → sees after h ≡ true → AreTotalsOf before log old → AreTotalsOf after (log ++ h ∷ []) new
+
+abbrev pub CountsHeld : SiteId → ℕ → List Held → Totals → Totals → Type 0
+CountsHeld j seq log old new = (before after : List ℕ) (front back : List Held) (h : Held)
+    → commit_at j seq log ≡ Some h.tx → SeesAlike before after front → SeesAlike before after back
+    → sees before h ≡ false → sees after h ≡ true → AreTotalsOf before (front ++ h ∷ back) old
+    → AreTotalsOf after (front ++ h ∷ back) new
 
 own_more_count : (H : Holdings) (preferred : List SiteId) → own (with_own_kept preferred H) ≡ own H + 1
 own_more_count H preferred = length_push H.preferred preferred
@@ -76,13 +80,33 @@ module _ (V : Values) (K : Knowledge) (S : StandFor V K) (below : V.site.0 < V.c
   freed_own k m locks2 owners oid =
       owners oid ∙ (λ t. if does_lock (S.locks.parts k m t) oid then None else S.locks.owners oid t)
 
+  -- an own commit is counted: each that was held is seen as before, and it is seen now
+  own_totals : (seq : ℕ) (tx : Tx) → CanFollow V.catalog V.site K (Own seq tx) → V.site.0 < length V.spread.committed
+      → V.spread.site ≡ V.site → (totals2 : Totals) → CountsOwn tx.updates V.totals totals2
+      → AreTotalsOf (with_own V.spread).committed (K.log ++ record { seq = seq; tx = tx } ∷ []) totals2
+  own_totals seq tx f commits here totals2 counted =
+      let i = V.site in
+      let h : Held = record { seq = seq; tx = tx } in
+      let before = V.spread.committed in
+      let after = (with_own V.spread).committed in
+      let are : (k : SiteId) → entry_at after k ≡ one_more i K.committed k = λ k.
+      ap (λ (s : SiteId). entry_at (with_own (record V.spread { site = s })).committed k) here
+      ∙ one_more_entry before K.committed S.spread.seen i k commits in
+      counted before after K.log h refl
+      (all_as_before before after K.committed S.spread.seen i are K.log (All-weaker (IsBetween i 1 (K.got i + 1 - 1)) (IsOther i (K.committed i + 1))
+      (λ g between of same. let within = between of in
+      let got = own_got V.catalog V.site below K S.sound in absurd (omega (arith, within.1, same, got))) K.log
+      (all_between i K.log 1 (K.got i + 1 - 1) (S.sound.numbered i))))
+      (seen_behind before after K.committed S.spread.seen i are h f.here f.next) S.totals
+
   pub stand_own : (seq : ℕ) (tx : Tx) → CanFollow V.catalog V.site K (Own seq tx)
       → IsRecordAmong V.catalog.sites (Own seq tx) → (V.site.0 < length V.spread.got) → (V.site.0 < length V.spread.committed)
       → V.spread.site ≡ V.site
-      → (log2 : List Held) (history2 : List (ObjId × Line)) (spread2 : Progress) (durable2 : Holdings) (locks2 : Locks)
+      → (log2 : List Held) (history2 : History) (totals2 : Totals) (spread2 : Progress) (durable2 : Holdings) (locks2 : Locks)
       (slow2 : SlowCommits)
       → log2 ≡ V.log ++ record { seq = seq; tx = tx } ∷ []
-      → ((oid : ObjId) → rows_of history2 oid ≡ rows_of V.history oid ++ rows_on oid (rows_from (record { seq = seq; tx = tx })))
+      → AreRowsOf V.catalog (K.log ++ record { seq = seq; tx = tx } ∷ []) history2
+      → CountsOwn tx.updates V.totals totals2
       → spread2 ≡ with_own V.spread
       → durable2 ≡ with_own_kept (homes_of V.catalog tx.updates) V.durable
       → ((j : SiteId) (n : ℕ) → part_of locks2 j n
@@ -91,14 +115,16 @@ module _ (V : Values) (K : Knowledge) (S : StandFor V K) (below : V.site.0 < V.c
       ≡ (if does_lock (part_of V.locks V.site tx.slow) oid then None else owner_of V.locks oid))
       → slow2.last ≡ V.slow.last
       → ((n : ℕ) → commit_of slow2 n ≡ (if nat_eq tx.slow n then without_decided (commit_of V.slow n) else commit_of V.slow n))
-      → StandFor (record V { log = log2; history = history2; spread = spread2; durable = durable2; locks = locks2; slow = slow2 })
+      → StandFor (record V { log = log2; history = history2; totals = totals2; spread = spread2; durable = durable2; locks = locks2; slow = slow2 })
       (recorded V.catalog V.site (Some (Own seq tx)) K)
-  stand_own seq tx f sizes gots commits here log2 history2 spread2 durable2 locks2 slow2 log rows spread durable parts owners last kept =
+  stand_own seq tx f sizes gots commits here log2 history2 totals2 spread2 durable2 locks2 slow2 log rows counted spread durable parts owners last kept =
       let h : Held = record { seq = seq; tx = tx } in record {
         epoch = S.epoch;
         starts = S.starts;
         log = log ∙ ap (λ hs. hs ++ h ∷ []) S.log;
-        rows = rows_then V.catalog K.log h V.history history2 S.rows f.declared rows;
+        rows = rows;
+        totals = subst (λ (P : Progress). AreTotalsOf P.committed (K.log ++ h ∷ []) totals2) (sym spread)
+            (own_totals seq tx f commits here totals2 counted);
         spread = subst (λ P. IsSpreadOf P (recorded V.catalog V.site (Some (Own seq tx)) K)) (sym spread) (record {
           received = λ k. ap (λ (i : SiteId). entry_at (with_own (record V.spread { site = i })).got k) here
               ∙ one_more_entry V.spread.got K.got S.spread.received V.site k gots;
@@ -127,6 +153,53 @@ module _ (V : Values) (K : Knowledge) (S : StandFor V K) (below : V.site.0 < V.c
         sound = sound_recorded V.catalog V.site below K S.sound (Own seq tx) f sizes;
       }
 
+  -- rows that are folded stand for what they stood for
+  pub stand_folded : (history2 : History) → AreRowsOf V.catalog K.log history2 → StandFor (record V { history = history2 }) K
+  stand_folded history2 rows = record {
+    epoch = S.epoch;
+    starts = S.starts;
+    log = S.log;
+    rows = rows;
+    totals = S.totals;
+    spread = record { received = S.spread.received; seen = S.spread.seen; durable = S.spread.durable };
+    durable = record {
+      count = S.durable.count;
+      homes = S.durable.homes;
+      acknowledged = S.durable.acknowledged;
+      visible = S.durable.visible;
+      durable_floor = S.durable.durable_floor;
+      visible_floor = S.durable.visible_floor;
+    };
+    locks = record { parts = S.locks.parts; owners = S.locks.owners };
+    slow = record { last = S.slow.last; kept = S.slow.kept };
+    sessions = S.sessions;
+    sound = S.sound;
+  }
+
+  -- and so do rows with more room, and counts with other places
+  pub stand_placed : (totals2 : Totals) → ((oid : ObjId) (id : ℕ) → total_of totals2 oid id ≡ total_of V.totals oid id)
+      → StandFor (record V { totals = totals2 }) K
+  stand_placed totals2 same = record {
+    epoch = S.epoch;
+    starts = S.starts;
+    log = S.log;
+    rows = S.rows;
+    totals = λ oid id. same oid id ∙ S.totals oid id;
+    spread = record { received = S.spread.received; seen = S.spread.seen; durable = S.spread.durable };
+    durable = record {
+      count = S.durable.count;
+      homes = S.durable.homes;
+      acknowledged = S.durable.acknowledged;
+      visible = S.durable.visible;
+      durable_floor = S.durable.durable_floor;
+      visible_floor = S.durable.visible_floor;
+    };
+    locks = record { parts = S.locks.parts; owners = S.locks.owners };
+    slow = record { last = S.slow.last; kept = S.slow.kept };
+    sessions = S.sessions;
+    sound = S.sound;
+  }
+
   -- what a record leaves as it was
   abbrev IsSoundThen : Record → Type 0
   IsSoundThen rec = CanFollow V.catalog V.site K rec → IsRecordAmong V.catalog.sites rec
@@ -135,11 +208,25 @@ module _ (V : Values) (K : Knowledge) (S : StandFor V K) (below : V.site.0 < V.c
   sound_then : (rec : Record) → IsSoundThen rec
   sound_then rec f sizes = sound_recorded V.catalog V.site below K S.sound rec f sizes
 
+  -- a commit that is received now isn't seen yet
+  not_seen_yet : (j : SiteId) (seq : ℕ) (tx : Tx) → CanFollow V.catalog V.site K (Got j seq tx)
+      → sees V.spread.committed (record { seq = seq; tx = tx }) ≡ false
+  not_seen_yet j seq tx f = by (sees V.spread.committed (record { seq = seq; tx = tx })) refl
+    where
+      by : (b : Bool) → sees V.spread.committed (record { seq = seq; tx = tx }) ≡ b → b ≡ false
+      by false is = refl
+      by true is =
+          let low = leb-true seq (entry_at V.spread.committed tx.tid.site) is in
+          let seen = S.spread.seen tx.tid.site in
+          let received = S.sound.received tx.tid.site in
+          let next = f.next ∙ ap (λ (k : SiteId). K.got k + 1) (sym f.sender) in
+          absurd (omega (arith, low, seen, received, next))
+
   pub stand_got : (j : SiteId) (seq : ℕ) (tx : Tx) → CanFollow V.catalog V.site K (Got j seq tx)
       → IsRecordAmong V.catalog.sites (Got j seq tx) → j.0 < length V.spread.got
-      → (log2 : List Held) (history2 : List (ObjId × Line)) (spread2 : Progress)
+      → (log2 : List Held) (history2 : History) (spread2 : Progress)
       → log2 ≡ V.log ++ record { seq = seq; tx = tx } ∷ []
-      → ((oid : ObjId) → rows_of history2 oid ≡ rows_of V.history oid ++ rows_on oid (rows_from (record { seq = seq; tx = tx })))
+      → AreRowsOf V.catalog (K.log ++ record { seq = seq; tx = tx } ∷ []) history2
       → spread2 ≡ with_received j V.spread
       → StandFor (record V { log = log2; history = history2; spread = spread2 })
       (recorded V.catalog V.site (Some (Got j seq tx)) K)
@@ -153,7 +240,9 @@ module _ (V : Values) (K : Knowledge) (S : StandFor V K) (below : V.site.0 < V.c
         epoch = S.epoch;
         starts = S.starts;
         log = log ∙ ap (λ hs. hs ++ h ∷ []) S.log;
-        rows = rows_then V.catalog K.log h V.history history2 S.rows f.declared rows;
+        rows = rows;
+        totals = subst (λ (P : Progress). AreTotalsOf P.committed (K.log ++ h ∷ []) V.totals) (sym spread)
+            (received_only V.spread.committed K.log h V.totals (not_seen_yet j seq tx f) S.totals);
         spread = subst (λ P. IsSpreadOf P (recorded V.catalog V.site (Some (Got j seq tx)) K)) (sym spread) (record {
           received = λ k. one_more_entry V.spread.got K.got S.spread.received j k within;
           seen = S.spread.seen;
@@ -188,14 +277,36 @@ module _ (V : Values) (K : Knowledge) (S : StandFor V K) (below : V.site.0 < V.c
   over_owners j (suc m) locks2 owners oid =
       owners oid ∙ (λ t. if does_lock (S.locks.parts j (suc m) t) oid then None else S.locks.owners oid t)
 
+  -- the next commit of another site is counted: it stands once in the log, and each other is seen as before
+  seen_totals : (j : SiteId) (seq : ℕ) → CanFollow V.catalog V.site K (Seen j seq) → j.0 < length V.spread.committed
+      → (totals2 : Totals) → CountsHeld j seq V.log V.totals totals2
+      → AreTotalsOf (with_committed j V.spread).committed K.log totals2
+  seen_totals j seq f within totals2 counted =
+      let before = V.spread.committed in
+      let after = (with_committed j V.spread).committed in
+      let are : (k : SiteId) → entry_at after k ≡ one_more j K.committed k = λ k.
+      one_more_entry before K.committed S.spread.seen j k within in
+      let next = f.next in
+      let once = held_once j K.log (K.got j) seq (S.sound.numbered j) (omega (arith, next)) f.received in
+      let alike : (log : List Held) → All (IsOther j seq) log → SeesAlike before after log = λ log others.
+      all_as_before before after K.committed S.spread.seen j are log
+      (subst (λ (n : ℕ). All (IsOther j n) log) next others) in
+      subst (λ log. AreTotalsOf after log totals2) (sym once.split)
+      (counted before after once.front once.back once.h
+      (ap (commit_at j seq) S.log ∙ once_commit j seq K.log once) (alike once.front once.before) (alike once.back once.behind)
+      (unseen_before before after K.committed S.spread.seen j are once.h once.here (once.number ∙ next))
+      (seen_behind before after K.committed S.spread.seen j are once.h once.here (once.number ∙ next))
+      (subst (λ log. AreTotalsOf before log V.totals) once.split S.totals))
+
   pub stand_seen : (j : SiteId) (seq : ℕ) → CanFollow V.catalog V.site K (Seen j seq) → j.0 < length V.spread.committed
-      → (spread2 : Progress) (locks2 : Locks)
+      → (totals2 : Totals) (spread2 : Progress) (locks2 : Locks)
+      → CountsHeld j seq V.log V.totals totals2
       → spread2 ≡ with_committed j V.spread
       → ((k : SiteId) (n : ℕ) → part_of locks2 k n ≡ part_over j (slow_number (commit_at j seq V.log)) (part_of V.locks) k n)
       → ((oid : ObjId) → owner_of locks2 oid
       ≡ owner_over j (slow_number (commit_at j seq V.log)) (part_of V.locks) (owner_of V.locks) oid)
-      → StandFor (record V { spread = spread2; locks = locks2 }) (recorded V.catalog V.site (Some (Seen j seq)) K)
-  stand_seen j seq f within spread2 locks2 spread parts owners =
+      → StandFor (record V { totals = totals2; spread = spread2; locks = locks2 }) (recorded V.catalog V.site (Some (Seen j seq)) K)
+  stand_seen j seq f within totals2 spread2 locks2 counted spread parts owners =
       let same : slow_number (commit_at j seq V.log) ≡ slow_number (commit_at j seq K.log) =
       ap (λ log. slow_number (commit_at j seq log)) S.log in
       record {
@@ -203,6 +314,8 @@ module _ (V : Values) (K : Knowledge) (S : StandFor V K) (below : V.site.0 < V.c
         starts = S.starts;
         log = S.log;
         rows = S.rows;
+        totals = subst (λ (P : Progress). AreTotalsOf P.committed K.log totals2) (sym spread)
+            (seen_totals j seq f within totals2 counted);
         spread = subst (λ P. IsSpreadOf P (recorded V.catalog V.site (Some (Seen j seq)) K)) (sym spread) (record {
           received = S.spread.received;
           seen = λ k. one_more_entry V.spread.committed K.committed S.spread.seen j k within;
@@ -239,6 +352,7 @@ module _ (V : Values) (K : Knowledge) (S : StandFor V K) (below : V.site.0 < V.c
     starts = S.starts;
     log = S.log;
     rows = S.rows;
+    totals = S.totals;
     spread = record { received = S.spread.received; seen = S.spread.seen; durable = S.spread.durable };
     durable = record { count = S.durable.count; homes = S.durable.homes; acknowledged = S.durable.acknowledged; visible = S.durable.visible; durable_floor = S.durable.durable_floor; visible_floor = S.durable.visible_floor };
     locks = record {
@@ -260,6 +374,7 @@ module _ (V : Values) (K : Knowledge) (S : StandFor V K) (below : V.site.0 < V.c
     starts = S.starts;
     log = S.log;
     rows = S.rows;
+    totals = S.totals;
     spread = record { received = S.spread.received; seen = S.spread.seen; durable = S.spread.durable };
     durable = record { count = S.durable.count; homes = S.durable.homes; acknowledged = S.durable.acknowledged; visible = S.durable.visible; durable_floor = S.durable.durable_floor; visible_floor = S.durable.visible_floor };
     locks = record {
@@ -290,6 +405,7 @@ module _ (V : Values) (K : Knowledge) (S : StandFor V K) (below : V.site.0 < V.c
         starts = S.starts;
         log = S.log;
         rows = S.rows;
+        totals = S.totals;
         spread = record { received = S.spread.received; seen = S.spread.seen; durable = S.spread.durable };
         durable = record { count = S.durable.count; homes = S.durable.homes; acknowledged = S.durable.acknowledged; visible = S.durable.visible; durable_floor = S.durable.durable_floor; visible_floor = S.durable.visible_floor };
         locks = record {
@@ -326,6 +442,7 @@ module _ (V : Values) (K : Knowledge) (S : StandFor V K) (below : V.site.0 < V.c
     starts = S.starts;
     log = S.log;
     rows = S.rows;
+    totals = S.totals;
     spread = record { received = S.spread.received; seen = S.spread.seen; durable = S.spread.durable };
     durable = record { count = S.durable.count; homes = S.durable.homes; acknowledged = S.durable.acknowledged; visible = S.durable.visible; durable_floor = S.durable.durable_floor; visible_floor = S.durable.visible_floor };
     locks = record { parts = unlocked_own m locks2 parts; owners = freed_own V.site m locks2 owners };
@@ -355,6 +472,7 @@ module _ (V : Values) (K : Knowledge) (S : StandFor V K) (below : V.site.0 < V.c
     starts = S.starts;
     log = S.log;
     rows = S.rows;
+    totals = S.totals;
     spread = record { received = S.spread.received; seen = S.spread.seen; durable = S.spread.durable };
     durable = subst (λ H. IsDurableOf V.catalog V.site H (recorded V.catalog V.site (Some (Marks durable visible)) K)) (sym is) (record {
       count = S.durable.count;
@@ -383,6 +501,7 @@ module _ (V : Values) (K : Knowledge) (S : StandFor V K) (below : V.site.0 < V.c
     starts = S.starts;
     log = S.log;
     rows = S.rows;
+    totals = S.totals;
     spread = record { received = S.spread.received; seen = S.spread.seen; durable = S.spread.durable };
     durable = record { count = S.durable.count; homes = S.durable.homes; acknowledged = S.durable.acknowledged; visible = S.durable.visible; durable_floor = S.durable.durable_floor; visible_floor = S.durable.visible_floor };
     locks = record {

@@ -1,5 +1,6 @@
 -- What is made for a record before it is kept, and what the tables show where it can be kept without memory.
 use Rattle.std.specs.Prelude.{◌≡◌, ◌+◌, ◌<◌, ◌≤◌, ℕ, List, [], length, All, IsTrue, None}
+use Rattle.std.specs.Option.{option_map_or}
 use Rattle.walter_base.specs.declared.catalog.Catalog.{Catalog}
 use Rattle.walter_base.specs.declared.message.Record.{Record}
 use Rattle.walter_base.specs.declared.message.Record.TheVariants.{Own, Got, Seen, Prepared, Released, SlowBegin, Marks}
@@ -7,12 +8,15 @@ use Rattle.walter_base.specs.declared.names.ObjId.{ObjId}
 use Rattle.walter_base.specs.declared.names.SiteId.{SiteId}
 use Rattle.walter_base.specs.declared.update.Update.{Update}
 use Rattle.walter_base.specs.Vectors.{entry_at}
+use Rattle.walter_cset.specs.Totals.{HavePlaces}
 use Rattle.walter_durable.specs.Marks.{CanJournal}
 use Rattle.walter_locks.specs.Parts.{part_of, owner_of, CanLock, CanRelease}
 use Rattle.walter_log.specs.Logged.{room_of}
 use Rattle.walter_objects.specs.Preferred.{homes_of, objects_among, participants_among}
 use Rattle.walter_rows.specs.Rows.{rows_told, HaveRoom}
+use Rattle.walter_rules.specs.declared.held.Held.{Held}
 use Rattle.walter_rules.specs.Deliveries.{is_peer}
+use Rattle.walter_rules.specs.Log.{commit_at}
 use Rattle.walter_rules.specs.Objects.{objects_of}
 use Rattle.walter_rules.specs.Slow.{Free}
 use Rattle.walter_slow.specs.Tables.{CanBegin}
@@ -51,11 +55,16 @@ IsKnownSite catalog (Seen j seq) = j.0 < catalog.sites
 IsKnownSite catalog (Released j slow) = j.0 < catalog.sites
 IsKnownSite catalog rec = Unit {0}
 
+-- the updates of the commit of this number of a site
+abbrev pub updates_at : SiteId → ℕ → List Held → List Update
+updates_at j seq log = option_map_or (λ tx. tx.updates) (commit_at j seq log) []
+
 -- there is room for what the record brings
 abbrev pub HasRoomFor : Tables → Record → Type 0
-HasRoomFor t (Own seq tx) = (0 < room_of t.log t.site) × HaveRoom t.history tx.updates × (0 < t.durable.room)
+HasRoomFor t (Own seq tx) = (0 < room_of t.log t.site) × HaveRoom t.history tx.updates × HavePlaces t.totals tx.updates
+    × (0 < t.durable.room)
 HasRoomFor t (Got j seq tx) = (0 < room_of t.log j) × HaveRoom t.history tx.updates
-HasRoomFor t (Seen j seq) = CanRelease t.locks j
+HasRoomFor t (Seen j seq) = HavePlaces t.totals (updates_at j seq t.log.log) × CanRelease t.locks j
 HasRoomFor t (Prepared j slow tid objects) = CanLock t.locks (length objects)
 HasRoomFor t (Released j slow) = CanRelease t.locks j
 HasRoomFor t (SlowBegin slow tx) = CanLock t.locks (length (objects_here t.catalog t.site tx.updates))

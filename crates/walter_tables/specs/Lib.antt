@@ -12,3 +12,4 @@ pub mod Hearing
 pub mod Planning
 pub mod Versions
 pub mod Packets
+pub mod Folding

@@ -18,6 +18,7 @@ values_of t = record {
   starts = t.starts;
   log = t.log.log;
   history = t.history;
+  totals = t.totals;
   spread = t.spread;
   durable = t.durable.holdings;
   locks = t.locks;

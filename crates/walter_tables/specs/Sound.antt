@@ -1,5 +1,5 @@
 -- What holds of what a site knows, by its records and by what was heard, whatever tables keep it.
-use Rattle.std.specs.Prelude.{◌≡◌, ◌≢◌, ◌≤◌, ℕ, List, [], length, All, IsTrue, None}
+use Rattle.std.specs.Prelude.{◌≡◌, ◌≢◌, ◌≤◌, ℕ, List, [], length, map, All, IsTrue, None}
 use Rattle.walter_base.specs.declared.catalog.Catalog.{Catalog}
 use Rattle.walter_base.specs.declared.names.SiteId.{SiteId}
 use Rattle.walter_base.specs.declared.packet.Answer.{Answer}
@@ -15,7 +15,7 @@ use Rattle.walter_rules.specs.declared.held.Held.{Held}
 use Rattle.walter_rules.specs.declared.outcome.Outcome.{Outcome}
 use Rattle.walter_rules.specs.declared.outcome.Outcome.TheVariants.{Taken}
 use Rattle.walter_rules.specs.Declarations.{are_declared}
-use Rattle.walter_rules.specs.Knowledge.{Knowledge}
+use Rattle.walter_rules.specs.Knowledge.{Knowledge, from_to}
 use Rattle.walter_rules.specs.Log.{of_site}
 use Rattle.walter_rules.specs.Slow.{Slow, Unused, Undecided, Dropped}
 use Rattle.walter_alone.proofs.Learned.{IsLearned}
@@ -48,6 +48,9 @@ pub record IsSound (catalog : Catalog) (i : SiteId) (K : Knowledge) : Type 0 whe
   pub learned : IsLearned catalog i K
   -- the own commits are counted, and can be sent, as can those received
   pub counted : length (of_site i K.log) ≡ K.committed i
+  -- what is committed was received, and what is held of each site has the numbers from 1 on
+  pub received : (j : SiteId) → K.committed j ≤ K.got j
+  pub numbered : (j : SiteId) → map (λ h. h.seq) (of_site j K.log) ≡ from_to 1 (K.got j)
   pub held : All (HoldsTx catalog) K.log
   -- own slow commits are those of the numbers that were given
   pub begun : (n : ℕ) → 1 ≤ n → n ≤ K.last → K.slow n ≢ Unused

@@ -1,12 +1,12 @@
 -- What the tables of a site stand for.
 use Rattle.std.specs.Prelude.{◌≡◌, ℕ, List}
 use Rattle.walter_base.specs.declared.catalog.Catalog.{Catalog}
-use Rattle.walter_base.specs.declared.names.ObjId.{ObjId}
 use Rattle.walter_base.specs.declared.names.SiteId.{SiteId}
+use Rattle.walter_cset.specs.Totals.{Table as Totals}
 use Rattle.walter_durable.specs.Marks.{Holdings}
-use Rattle.walter_history.specs.Lines.{Line}
+use Rattle.walter_history.specs.Lines.{Table as History}
 use Rattle.walter_locks.specs.Parts.{Table as Locks}
-use Rattle.walter_rows.specs.Rows.{AreRowsOf}
+use Rattle.walter_rows.specs.Rows.{AreRowsOf, AreTotalsOf}
 use Rattle.walter_rules.specs.declared.held.Held.{Held}
 use Rattle.walter_rules.specs.Knowledge.{Knowledge}
 use Rattle.walter_rules.specs.Sessions.{Sessions}
@@ -22,7 +22,8 @@ pub record Values : Type 0 where
   pub epoch : ℕ
   pub starts : ℕ
   pub log : List Held
-  pub history : List (ObjId × Line)
+  pub history : History
+  pub totals : Totals
   pub spread : Progress
   pub durable : Holdings
   pub locks : Locks
@@ -35,6 +36,7 @@ pub record StandFor (V : Values) (K : Knowledge) : Type 0 where
   pub starts : V.starts ≡ K.starts
   pub log : V.log ≡ K.log
   pub rows : AreRowsOf V.catalog K.log V.history
+  pub totals : AreTotalsOf V.spread.committed K.log V.totals
   pub spread : IsSpreadOf V.spread K
   pub durable : IsDurableOf V.catalog V.site V.durable K
   pub locks : AreLocksOf V.locks K

@@ -28,6 +28,7 @@ impl Tables {
         ensures catalog { catalog_of self.new ≡ catalog_of self.old }
         ensures log { self.new.log ≡ self.old.log }
         ensures history { self.new.history ≡ self.old.history }
+        ensures totals { self.new.totals ≡ self.old.totals }
         ensures spread { self.new.spread ≡ self.old.spread }
         ensures durable { self.new.durable ≡ self.old.durable }
         ensures locks { self.new.locks ≡ self.old.locks }

@@ -10,7 +10,6 @@ ghost use Rattle.walter_rules.specs.Slow.{Free};
 ghost use Rattle.walter_tables.specs.Keeping.{GoesOn};
 ghost use Rattle.walter_tables.specs.Planning.{expected_of};
 ghost use Rattle.walter_tables.specs.Sites.{values_of, site_of, catalog_of, Stands};
-ghost use Rattle.walter_tables.specs.Versions.{are_regular};
 
 use crate::plan::Planned;
 use crate::tables::Tables;
@@ -229,7 +228,6 @@ impl Tables {
     ) -> Mem<Planned>
         requires peer { IsTrue (is_peer (catalog_of self.now) (site_of self.now) from) }
         requires free { part_of self.now.locks from slow ≡ Free }
-        requires regular { IsTrue (are_regular (catalog_of self.now) objects.now) }
         ensures rule { IfOk result (λ p. (K : Knowledge) → Stands self.now K
             → expected_of p ≡ prepares K from slow tid start.now objects.now (first_conflict K start.now objects.now)) }
         ensures on { IfOk result (λ p. IfSome p.rec (GoesOn self.now)) }

@@ -5,11 +5,12 @@ ghost use Rattle.walter_rules.specs.Log.{commit_at};
 ghost use Rattle.walter_tables.specs.Keeping.{IsMadeFor, HasRoomFor, GoesOn};
 ghost use Rattle.walter_tables.specs.Sites.{values_of, site_of, catalog_of, Follows};
 
+use crate::counting::count_seen;
 use crate::made::Made;
 use crate::over::{commit_decided, end_undecided, release_over};
 use crate::tables::Tables;
 use walter_base::{Objects, Record, SiteId, Tid, Tx};
-use walter_rows::append_all;
+use walter_rows::{append_all, count_commit};
 use walter_rules::Held;
 
 #[tactic(auto, unfolding(crate::specs::Sites::values_of, crate::specs::Sites::site_of, crate::specs::Sites::catalog_of))]
@@ -60,6 +61,8 @@ impl Tables {
         ensures catalog { catalog_of self.new ≡ catalog_of self.old }
     {
         let slow = tx.slow;
+        count_commit(&mut self.totals, tx.updates.as_slice());
+        self.placed = None;
         self.log.append(Held { seq, tx });
         append_all(&mut self.history, made.rows);
         self.spread.commit_own();
@@ -91,6 +94,8 @@ impl Tables {
         ensures catalog { catalog_of self.new ≡ catalog_of self.old }
     {
         let slow = self.slow_number_at(from, seq);
+        count_seen(&mut self.totals, &self.log, from, seq);
+        self.placed = None;
         self.spread.commit(from);
         release_over(&mut self.locks, from, slow);
     }

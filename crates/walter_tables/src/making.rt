@@ -1,15 +1,17 @@
 ghost use Rattle.std.specs.Prelude.{◌≡◌, ◌<◌, ◌≤◌, IfOk, OnOk, length};
+ghost use Rattle.walter_cset.specs.Totals.{HavePlaces};
 ghost use Rattle.walter_base.specs.declared.message.Record.{Record as Written};
 ghost use Rattle.walter_log.specs.Logged.{room_of};
 ghost use Rattle.walter_rows.specs.Rows.{HaveRoom};
 ghost use Rattle.walter_rules.specs.Knowledge.{Knowledge};
-ghost use Rattle.walter_tables.specs.Keeping.{IsMadeFor, HasRoomFor, GoesOn, IsKnownSite, sites_for, objects_for, objects_here, asked_of};
+ghost use Rattle.walter_tables.specs.Keeping.{IsMadeFor, HasRoomFor, GoesOn, IsKnownSite, updates_at, sites_for, objects_for, objects_here, asked_of};
 ghost use Rattle.walter_tables.specs.Sites.{values_of, site_of, catalog_of, Stands};
 
 use crate::made::Made;
 use crate::tables::Tables;
 use std::alloc::Global;
-use walter_base::{Mem, Objects, Record, SiteId, Sites, Tx};
+use walter_base::{Mem, Objects, Record, SiteId, Sites, Tx, Updates};
+use walter_cset::{close_all, open_all};
 use walter_objects::{homes, objects_at, objects_of, participants};
 use walter_rows::{make_room, rows_told};
 
@@ -62,10 +64,15 @@ impl Tables {
         match rec {
             Record::Own(_, tx) => {
                 self.durable.reserve()?;
-                self.reserve_held(self.site, tx)
+                self.reserve_held(self.site, tx)?;
+                self.place(tx.updates.clone()?)
             }
             Record::Got(from, _, tx) => self.reserve_held(*from, tx),
-            Record::Seen(_, _) | Record::Released(_, _) => self.locks.reserve(0),
+            Record::Seen(from, seq) => {
+                self.locks.reserve(0)?;
+                self.place_seen(*from, *seq)
+            }
+            Record::Released(_, _) => self.locks.reserve(0),
             Record::Prepared(_, _, _, objects) => {
                 let count = objects.as_slice().len() as u64;
                 self.locks.reserve(count)
@@ -96,5 +103,45 @@ impl Tables {
     {
         self.log.reserve(site)?;
         make_room(&mut self.history, tx.updates.as_slice())
+    }
+
+    /// Gives the ids that the commit of this number of a site names places in the counts.
+    fn place_seen(&mut self, from: SiteId, seq: u64) -> Mem<()>
+        ensures places { OnOk result (HavePlaces self.new.totals (updates_at from seq self.old.log.log)) }
+        ensures stands { (K : Knowledge) → Stands self.old K → Stands self.new K }
+        ensures log { self.new.log ≡ self.old.log }
+        ensures spread { self.new.spread ≡ self.old.spread }
+        ensures locks { self.new.locks ≡ self.old.locks }
+        ensures sessions { self.new.sessions ≡ self.old.sessions }
+        ensures site { site_of self.new ≡ site_of self.old }
+        ensures catalog { catalog_of self.new ≡ catalog_of self.old }
+    {
+        let Some(tx) = self.log.commit_at(from, seq) else {
+            return open_all(&mut self.totals, &[]);
+        };
+        let updates = tx.updates.clone()?;
+        self.place(updates)
+    }
+
+    /// Gives the ids that the updates name places in the counts. Those that a plan which was dropped had given go first.
+    fn place(&mut self, updates: Updates) -> Mem<()>
+        ensures places { OnOk result (HavePlaces self.new.totals updates) }
+        ensures stands { (K : Knowledge) → Stands self.old K → Stands self.new K }
+        ensures log { self.new.log ≡ self.old.log }
+        ensures history { self.new.history ≡ self.old.history }
+        ensures spread { self.new.spread ≡ self.old.spread }
+        ensures durable { self.new.durable ≡ self.old.durable }
+        ensures locks { self.new.locks ≡ self.old.locks }
+        ensures slow { self.new.slow ≡ self.old.slow }
+        ensures sessions { self.new.sessions ≡ self.old.sessions }
+        ensures site { site_of self.new ≡ site_of self.old }
+        ensures catalog { catalog_of self.new ≡ catalog_of self.old }
+    {
+        if let Some(dropped) = self.placed.as_ref() {
+            close_all(&mut self.totals, dropped.as_slice());
+        }
+        let opened = open_all(&mut self.totals, updates.as_slice());
+        self.placed = Some(updates);
+        opened
     }
 }

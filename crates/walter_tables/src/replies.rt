@@ -4,6 +4,7 @@ ghost use Rattle.std.specs.FinMap as map;
 ghost use Rattle.std.specs.Option.{option_copied};
 ghost use Rattle.walter_base.specs.declared.message.Request.{Request as Asked};
 ghost use Rattle.walter_base.specs.Sizes.{AreSmall};
+ghost use Rattle.walter_base.specs.Vectors.{Covers};
 ghost use Rattle.walter_rules.specs.Calls.{Expected, answers, if_regular, if_cset, open_in};
 ghost use Rattle.walter_rules.specs.Knowledge.{Knowledge};
 ghost use Rattle.walter_session.specs.Sessions.{session_of, session_view};
@@ -42,6 +43,7 @@ impl Tables {
         ensures session { option_map session_view (option_copied result)
             ≡ open_in (session_of self.entry.now.sessions client) }
         ensures small { IfSome (option_copied result) (λ session. AreSmall session.updates.items) }
+        ensures covers { IfSome (option_copied result) (λ session. Covers session.snapshot self.entry.now.history.floor) }
     {
         let session = self.sessions.get(client)?;
         if session.slow > 0 {
@@ -137,6 +139,8 @@ impl Tables {
         let counts = counts_read(
             alloc,
             &self.history,
+            &self.totals,
+            self.spread.committed(),
             &session.snapshot,
             &session.updates,
             oid,
@@ -157,7 +161,16 @@ impl Tables {
         if let Some(refusal) = self.refusal_of_set(oid) {
             return Reply::Refused(refusal);
         }
-        Reply::Count(count_read(&self.history, &session.snapshot, &session.updates, oid, id))
+        let committed = self.spread.committed();
+        Reply::Count(count_read(
+            &self.history,
+            &self.totals,
+            committed,
+            &session.snapshot,
+            &session.updates,
+            oid,
+            id,
+        ))
     }
 
     pub(crate) fn abort_reply(&self, client: u32) -> Reply

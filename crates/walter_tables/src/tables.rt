@@ -1,14 +1,16 @@
 ghost use Rattle.std.specs.Prelude.{◌≡◌, ◌<◌, ◌≤◌, ℕ, length, IsTrue, IfOk};
-ghost use Rattle.walter_base.specs.Vectors.{most_sites};
+ghost use Rattle.walter_base.specs.Vectors.{most_sites, Covers};
 ghost use Rattle.walter_locks.specs.Parts.{part_of};
 ghost use Rattle.walter_rules.specs.declared.held.TheConstants.{WINDOW};
+ghost use Rattle.walter_session.specs.Floors.{AllCover};
 ghost use Rattle.walter_session.specs.Sessions.{sessions_of};
 ghost use Rattle.walter_tables.specs.Open.{AreOpenAt};
 ghost use Rattle.walter_tables.specs.Parts.{is_free};
 ghost use Rattle.walter_tables.specs.Props.{props};
 
 use std::alloc::Global;
-use walter_base::{Catalog, Mem, SiteId};
+use walter_base::{Catalog, Mem, SiteId, Updates};
+use walter_cset::Totals;
 use walter_durable::Durable;
 use walter_history::History;
 use walter_locks::Locks;
@@ -28,6 +30,9 @@ pub struct Tables {
     pub(crate) starts: u64,
     pub(crate) log: Log,
     pub(crate) history: History,
+    pub(crate) totals: Totals,
+    // The updates whose ids were given places last, by a plan that may have been dropped.
+    pub(crate) placed: Option<Updates>,
     pub(crate) spread: Spread,
     pub(crate) durable: Durable,
     pub(crate) locks: Locks,
@@ -47,6 +52,8 @@ pub struct Tables {
     ghost tolerated: { durable.holdings.tolerated ≡ catalog.tolerated },
     ghost dead: { length locks.dead ≡ catalog.sites },
     ghost ahead: { (n : ℕ) → slow.last < n → IsTrue (is_free (part_of locks site n)) },
+    ghost folded: { Covers spread.committed history.floor },
+    ghost snapshots: { AllCover (sessions_of sessions) history.floor },
     ghost open: { AreOpenAt catalog site (sessions_of sessions) } by { Prim.hlevel props },
 }
 
@@ -75,7 +82,9 @@ impl Tables {
             epoch: 0,
             starts: 0,
             log,
-            history: History::new(alloc),
+            history: History::new(alloc, sites),
+            totals: Totals::new(alloc),
+            placed: None,
             spread: Spread::new(site, sites, WINDOW),
             durable,
             locks,

@@ -1,10 +1,10 @@
-ghost use Rattle.std.specs.Prelude.{◌≡◌, None, IsTrue};
+ghost use Rattle.std.specs.Prelude.{◌≡◌, None};
 ghost use Rattle.walter_locks.specs.Parts.{owner_of};
 ghost use Rattle.walter_rules.specs.Conflicts.{first_conflict};
 ghost use Rattle.walter_rules.specs.Knowledge.{Knowledge};
 ghost use Rattle.walter_tables.specs.Keeping.{AreUnlocked};
 ghost use Rattle.walter_tables.specs.Sites.{values_of, site_of, catalog_of, Stands};
-ghost use Rattle.walter_tables.specs.Versions.{versions_of, are_regular};
+ghost use Rattle.walter_tables.specs.Versions.{versions_of};
 
 use crate::tables::Tables;
 use walter_base::{Conflict, ObjId, Objects, Rows, Tid, Version, Vts};
@@ -28,9 +28,7 @@ impl Rows for Tables {
 impl Tables {
     /// What stands first in the way of a commit of the objects.
     pub(crate) fn conflict(&self, start: &Vts, objects: &Objects) -> Option<Conflict>
-        ensures rule { (K : Knowledge) → Stands self.now K
-            → IsTrue (are_regular (catalog_of self.now) objects.now)
-            → result ≡ first_conflict K start.now objects.now }
+        ensures rule { (K : Knowledge) → Stands self.now K → result ≡ first_conflict K start.now objects.now }
         ensures clear { result ≡ None → AreUnlocked self.now objects.now }
     {
         fast(objects, start, self).err()

@@ -1,4 +1,4 @@
-use Rattle.std.proofs.Common.{◌≡◌, Option, Some, None, ap, sym, ◌∙◌, subst}
+use Rattle.std.proofs.Common.{◌≡◌, Option, Some, None, refl, ap, sym, ◌∙◌, subst}
 use Rattle.std.specs.Prelude.{IfSome, IsSomeAnd}
 use Rattle.walter_base.specs.declared.message.Reply.TheVariants.{Done}
 use Rattle.walter_rules.specs.declared.event.Event.TheVariants.{Given}
@@ -6,11 +6,15 @@ use Rattle.walter_rules.specs.declared.event.Input.TheVariants.{Call}
 use Rattle.walter_rules.specs.declared.outcome.Outcome.TheVariants.{Replied}
 use Rattle.walter_rules.specs.Learning.{updated}
 use Rattle.walter_base.specs.ByClient.{changed}
+use Rattle.walter_base.specs.declared.update.Update.{Update}
+use Rattle.walter_rules.specs.Sessions.{Session}
+use Rattle.walter_session.specs.Floors.{AllCover}
 use Rattle.walter_session.specs.Sessions.{sessions_of, session_of}
 use Rattle.walter_tables.specs.Answering.{with_any}
 use Rattle.walter_tables.specs.Open.{AreOpenAt, IsOpenAt}
 use Rattle.walter_tables.specs.Sites.{values_of, site_of, catalog_of}
 use Rattle.walter_tables.proofs.Answered.{stand_answered}
+use Rattle.walter_tables.proofs.CoveredFloors.{cover_changed}
 use Rattle.walter_tables.proofs.Opened.{open_changed}
 use Rattle.walter_tables.proofs.tables.Tables.answer_done.Goals as goal
 
@@ -27,6 +31,18 @@ invariant_of-self-clause-open c =
     (open_changed self.catalog self.site c.args.client (updated c.args.call.now) ss self.open
     (some_and (λ s. IsOpenAt self.catalog self.site (updated c.args.call.now s)) (session_of self.sessions c.args.client)
     c.requires.fits))
+
+same_snapshot : (asked : Option Update) (s : Session) → (with_any asked s).snapshot ≡ s.snapshot
+same_snapshot None s = refl
+same_snapshot (Some update) s = refl
+
+pub invariant_of-self-clause-snapshots : goal.invariant_of-self-clause-snapshots
+invariant_of-self-clause-snapshots c =
+    let self = c.args.self.now in
+    let ss = sessions_of self.sessions in
+    subst (λ others. AllCover others self.history.floor) (sym c.update.ensures)
+    (cover_changed self.history.floor c.args.client (with_any c.args.asked) ss (same_snapshot c.args.asked) self.open.apart
+    self.snapshots)
 
 pub returns-clause-stands : goal.returns-clause-stands
 unfolding values_of site_of catalog_of

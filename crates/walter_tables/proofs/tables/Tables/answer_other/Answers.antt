@@ -1,15 +1,19 @@
-use Rattle.std.proofs.Common.{◌+◌, ◌∷◌, [], ◌++◌, ℕ, List, length, inl, inr, ap, sym, ◌∙◌, subst}
+use Rattle.std.proofs.Common.{◌≡◌, ◌+◌, ◌∷◌, [], ◌++◌, ℕ, List, Option, Some, None, length, inl, inr, refl, ap, sym, ◌∙◌, subst}
 use Rattle.walter_base.specs.declared.message.Reply.TheVariants.{Started}
 use Rattle.walter_rules.specs.declared.event.Event.TheVariants.{Given}
 use Rattle.walter_rules.specs.declared.event.Input.TheVariants.{Call}
 use Rattle.walter_rules.specs.declared.outcome.Outcome.TheVariants.{Replied}
 use Rattle.walter_rules.specs.Learning.{answered}
+use Rattle.walter_base.specs.Vectors.{Covers}
+use Rattle.walter_rules.specs.Sessions.{Session}
+use Rattle.walter_session.specs.Floors.{AllCover}
 use Rattle.walter_session.specs.Sessions.{sessions_of, session_of, started}
 use Rattle.walter_tables.specs.Answering.{CanBeAnswered, deciding_any}
 use Rattle.walter_tables.specs.Open.{AreOpenAt}
 use Rattle.walter_tables.specs.Sites.{values_of, site_of, catalog_of}
 use Rattle.walter_tables.specs.Standing.{StandFor}
 use Rattle.walter_tables.proofs.Answered.{DoesEnd, vector_is, stand_answered, stand_ended}
+use Rattle.walter_tables.proofs.CoveredFloors.{cover_changed, cover_without, cover_more}
 use Rattle.walter_tables.proofs.Opened.{session_is, open_changed, open_without, open_more, open_started, open_decided}
 use Rattle.walter_tables.proofs.tables.Tables.answer_other.Goals as goal
 
@@ -37,6 +41,31 @@ invariant_of-self-in-Deciding-1-clause-open c =
     (session_is self.catalog self.site c.args.client ss self.open) in
     subst (AreOpenAt self.catalog self.site) (sym c.decide.ensures)
     (open_changed self.catalog self.site c.args.client (deciding_any c.args.begun) ss self.open is)
+
+pub invariant_of-self-clause-snapshots : goal.invariant_of-self-clause-snapshots
+invariant_of-self-clause-snapshots c =
+    let self = c.args.self.now in
+    let floor = self.history.floor in
+    subst (λ ss. AllCover ss floor) (sym c.start.ensures)
+    (cover_more floor c.args.client (started c.in-Started.tid c.committed.result.now) (sessions_of self.sessions) self.snapshots
+    (subst (λ (v : List ℕ). Covers v floor) (sym c.committed.ensures) self.folded))
+
+pub invariant_of-self-in-Committed-clause-snapshots : goal.invariant_of-self-in-Committed-clause-snapshots
+invariant_of-self-in-Committed-clause-snapshots c =
+    let self = c.args.self.now in
+    subst (λ ss. AllCover ss self.history.floor) (sym c.end.ensures.sessions)
+    (cover_without self.history.floor c.args.client (sessions_of self.sessions) self.snapshots)
+
+decided_snapshot : (begun : Option ℕ) (s : Session) → (deciding_any begun s).snapshot ≡ s.snapshot
+decided_snapshot None s = refl
+decided_snapshot (Some slow) s = refl
+
+pub invariant_of-self-in-Deciding-1-clause-snapshots : goal.invariant_of-self-in-Deciding-1-clause-snapshots
+invariant_of-self-in-Deciding-1-clause-snapshots c =
+    let self = c.args.self.now in
+    subst (λ ss. AllCover ss self.history.floor) (sym c.decide.ensures)
+    (cover_changed self.history.floor c.args.client (deciding_any c.args.begun) (sessions_of self.sessions)
+    (decided_snapshot c.args.begun) self.open.apart self.snapshots)
 
 pub returns-in-Started-clause-stands : goal.returns-in-Started-clause-stands
 unfolding values_of site_of catalog_of

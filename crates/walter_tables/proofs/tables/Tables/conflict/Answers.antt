@@ -7,9 +7,9 @@ use Rattle.walter_tables.proofs.tables.Tables.conflict.Goals as goal
 
 pub returns-clause-rule : goal.returns-clause-rule
 unfolding values_of site_of catalog_of
-returns-clause-rule c = λ K S regular.
+returns-clause-rule c = λ K S.
     c.err.ensures.value ∙ c.fast.ensures
-    ∙ conflict_told (values_of c.args.self.now) K S c.args.start.now c.args.objects.now regular
+    ∙ conflict_told (values_of c.args.self.now) K S c.args.start.now c.args.objects.now
 
 pub returns-clause-clear : goal.returns-clause-clear
 returns-clause-clear c = λ none.

@@ -22,7 +22,7 @@ returns-in-Yes-clause-stands c = λ K number S news.
     let T = c.hear_yes.new.self in
     subst (λ p. IsNewsOf old.site K from p
     → StandFor (record (values_of old) { slow = T }) (heard (Given (Deliver from number p)) Taken K)) (ap (λ (a : Answer). Vote n a) (sym c.in-Yes.is))
-    (λ is. stand_said (values_of old) K S from number packet is old.spread old.durable.holdings T
+    (λ is. stand_said (values_of old) K S from number packet is old.spread old.durable.holdings T refl
     (same_spread (values_of old) K S from number packet refl) (same_durable (values_of old) K S from number packet refl refl)
     (said_yes (values_of old) K S from number n is T c.hear_yes.ensures.last c.hear_yes.ensures.commits)) news
 
@@ -37,7 +37,7 @@ returns-in-No-clause-stands c = λ K number S news.
     let T = c.hear_no.new.self in
     subst (λ p. IsNewsOf old.site K from p
     → StandFor (record (values_of old) { slow = T }) (heard (Given (Deliver from number p)) Taken K)) (ap (λ (a : Answer). Vote n a) (sym c.in-No.is))
-    (λ is. stand_said (values_of old) K S from number packet is old.spread old.durable.holdings T
+    (λ is. stand_said (values_of old) K S from number packet is old.spread old.durable.holdings T refl
     (same_spread (values_of old) K S from number packet refl) (same_durable (values_of old) K S from number packet refl refl)
     (said_no (values_of old) K S from number n conflict is T c.hear_no.ensures.last c.hear_no.ensures.commits)) news
 

@@ -1,7 +1,6 @@
-use Rattle.std.proofs.Common.{◌<◌, ◌++◌, map, ap, sym, ◌∙◌, subst}
+use Rattle.std.proofs.Common.{◌<◌, map, ap, sym, ◌∙◌, subst}
 use Rattle.walter_base.specs.declared.update.Row.{Row}
-use Rattle.walter_history.specs.Lines.{rows_of}
-use Rattle.walter_rows.specs.Rows.{rows_on, HaveRoom}
+use Rattle.walter_rows.specs.Rows.{HaveRoom}
 use Rattle.walter_rows.proofs.HeldRows.{updates_back}
 use Rattle.walter_rules.specs.Log.{version_of}
 use Rattle.walter_rules.proofs.RuleTests.{peer_true}
@@ -29,5 +28,5 @@ returns-clause-stands c = λ K S f sizes.
     let old = c.args.self.now in
     stand_got (values_of old) K S old.here c.args.from c.args.seq c.args.tx f sizes (subst (λ n. c.args.from.0 < n) (sym old.spread_sites) (peer_true old.catalog old.site c.args.from c.requires.on.0.1).0) c.append.new.self.log
     c.append_all.new.history c.receive.new.self c.append.ensures.log
-    (λ oid. c.append_all.ensures oid ∙ ap (λ rows. rows_of old.history oid ++ rows_on oid rows) c.requires.made.rows)
+    (c.append_all.ensures.held old.catalog K.log (record { seq = c.args.seq; tx = c.args.tx }) c.requires.made.rows f.declared S.rows)
     c.receive.ensures

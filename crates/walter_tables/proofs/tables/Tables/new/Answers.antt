@@ -10,10 +10,10 @@ invariant_of-result-clause-ahead c = λ n above. ap is_free (c.in_ok-locks.ensur
 
 pub invariant_of-result-clause-open : goal.invariant_of-result-clause-open
 invariant_of-result-clause-open c =
-    subst (AreOpenAt c.args.catalog c.args.site) (sym c.new-6.ensures) (none_open c.args.catalog c.args.site)
+    subst (AreOpenAt c.args.catalog c.args.site) (sym c.new-7.ensures) (none_open c.args.catalog c.args.site)
 
 pub returns-clause-stands : goal.returns-clause-stands
 unfolding values_of site_of catalog_of
-returns-clause-stands c = fresh_stands _ c.in_ok-log.ensures.log c.new-3.ensures c.new-4.ensures c.new-durable.ensures
-    c.in_ok-locks.ensures.parts c.in_ok-locks.ensures.owners c.new-5.ensures.last c.new-5.ensures.none c.new-6.ensures
+returns-clause-stands c = fresh_stands _ c.in_ok-log.ensures.log c.new-3.ensures c.new-4.ensures c.new-5.ensures c.new-durable.ensures
+    c.in_ok-locks.ensures.parts c.in_ok-locks.ensures.owners c.new-6.ensures.last c.new-6.ensures.none c.new-7.ensures
     refl refl

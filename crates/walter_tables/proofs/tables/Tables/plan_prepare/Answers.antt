@@ -10,16 +10,8 @@ use Rattle.walter_base.specs.declared.packet.Packet.TheVariants.{Prepare}
 use Rattle.walter_tables.specs.declared.plan.Planned.{Planned}
 use Rattle.walter_tables.specs.Planning.{expected_of}
 use Rattle.walter_tables.specs.Sites.{values_of, site_of, catalog_of, Stands}
-use Rattle.walter_tables.proofs.ConflictsTold.{lockable_regular, nothing_there}
+use Rattle.walter_tables.proofs.ConflictsTold.{nothing_there}
 use Rattle.walter_tables.proofs.tables.Tables.plan_prepare.Goals as goal
-
-pub plan_lock-requires-clause-regular : goal.plan_lock-requires-clause-regular
-unfolding values_of site_of catalog_of
-plan_lock-requires-clause-regular c =
-    let now = c.args.self.now in
-    let are : c.are_lockable.result ≡ true = search rules in
-    lockable_regular now.catalog now.site c.args.objects.now
-    (sym (c.are_lockable.ensures ∙ ap (are_lockable_at now.catalog now.site) c.as_slice.ensures) ∙ are)
 
 pub returns-clause-rule : goal.returns-clause-rule
 unfolding values_of site_of catalog_of

@@ -7,6 +7,9 @@ use Rattle.walter_session.specs.Sessions.{session_view}
 use Rattle.walter_tables.specs.Sites.{values_of, site_of, catalog_of}
 use Rattle.walter_tables.proofs.tables.Tables.value_reply.Goals as goal
 
+pub value_read-requires : goal.value_read-requires
+value_read-requires c = c.in-Some.ensures.covers
+
 pub returns-clause-rule : goal.returns-clause-rule
 unfolding values_of site_of catalog_of
 returns-clause-rule c = λ K S.
