@@ -53,8 +53,10 @@ impl Machine {
     ghost use Rattle.walter_machine.specs.States.{AreTold, IsSizedEvent};
     ghost use Rattle.walter_rules.specs.Deliveries.{IsLeastEnabled};
     ghost use Rattle.walter_rules.specs.declared.event.Event.TheVariants as happens;
+    ghost use Rattle.walter_rules.specs.declared.event.Input.TheVariants as inputs;
     ghost use Rattle.walter_rules.specs.Standing.{Standing, stands_after, up_after};
     ghost use Rattle.walter_rules.specs.Trails.{Comes, TakesMemory, failure, fullness, only, want};
+    ghost use Rattle.walter_tables.specs.Folding.{IsTidy};
 
     /// A site that is down, of which nothing is known. It stands so as its records say.
     pub fn new(alloc: Global, catalog: Catalog, id: SiteId) -> Machine
@@ -139,8 +141,8 @@ impl Machine {
         owe_lost(&mut self.debts, &mut self.lost)
     }
 
-    /// What is to come of an event, with the record that is to be stable first and the frames of what is put out. How a
-    /// site comes up that is down `Ready::boot` says.
+    /// What is to come of an event, with the record that is to be stable first and the frames of what is put out. At a
+    /// tick the rows are folded first. How a site comes up that is down `Ready::boot` says.
     pub fn prepare(&mut self, event: &Event) -> Mem<Ready>
         requires sized { IsSizedEvent (catalog_in self.old).sites event.now }
         requires room { HasRoom self.old }
@@ -150,6 +152,7 @@ impl Machine {
         ensures anyway { IfOk result
             (IsReadyAnyway (catalog_in self.old) (site_in self.old) (tables_in self.new) event.now) }
         ensures free { OnErr result (TakesMemory (is_up self.old) event.now) }
+        ensures tidy { event.now ≡ happens.Given inputs.Tick → IfSome (tables_in self.new) IsTidy }
         ensures stands { (S : Standing) → HasStanding self.old S → HasStanding self.new S }
         ensures room { HasRoom self.new }
         ensures up { is_up self.new ≡ is_up self.old }

@@ -10,9 +10,11 @@ ghost use Rattle.walter_machine.specs.Steps.{record_of};
 ghost use Rattle.walter_packet.specs.Framed.{frame_of};
 ghost use Rattle.walter_packet.specs.Spelling.{HasPacketSpelling};
 ghost use Rattle.walter_rules.specs.declared.event.Event.{Event as Happens};
+ghost use Rattle.walter_rules.specs.declared.event.Input.{Input as Asked};
 ghost use Rattle.walter_rules.specs.Standing.{Standing};
 ghost use Rattle.walter_rules.specs.Trails.{TakesMemory};
 ghost use Rattle.walter_site.specs.Members.{IsStanding, IsSizedInput, IsSizedPacket};
+ghost use Rattle.walter_tables.specs.Folding.{IsTidy};
 ghost use Rattle.walter_tables.specs.Sites.{site_of, catalog_of};
 
 use crate::outcomes::{gone_first, outcome_at_rest};
@@ -57,6 +59,7 @@ pub fn prepare_input(
     ensures of { (catalog : Catalog) (i : SiteId) → IfSome site.old (IsOf catalog i)
         → IfSome site.new (IsOf catalog i) }
     ensures up { is_some site.new ≡ is_some site.old }
+    ensures tidy { input.now ≡ Asked.Tick → IfSome site.new IsTidy }
     ensures anyway { (catalog : Catalog) (i : SiteId) (gone : ℕ → Option Named) → catalog.sites ≡ sites
         → IfSome site.old (IsOf catalog i) → IsDebtOf gone input.now owed
         → IfOk result (IsReadyAnyway catalog i site.new (Happens.Given input.now)) }
@@ -69,7 +72,22 @@ pub fn prepare_input(
             let outcome = Outcome::Replied(Reply::Refused(Refusal::Gone { tid }));
             Ok(without_record(alloc, Step::Answer(outcome)))
         }
-        None => plan(alloc, site, sites, input),
+        None => {
+            tidy_at(site, input);
+            plan(alloc, site, sites, input)
+        }
+    }
+}
+
+// At a tick the rows are folded, before anything is planned.
+fn tidy_at(site: &mut Site, input: &Input)
+    ensures tidy { input.now ≡ Asked.Tick → IsTidy site.new }
+    ensures state { (S : Standing) → IsUp S site.old → IsUp S site.new }
+    ensures site { site_of site.new ≡ site_of site.old }
+    ensures catalog { catalog_of site.new ≡ catalog_of site.old }
+{
+    if let Input::Tick = input {
+        site.tidy();
     }
 }
 
@@ -85,6 +103,7 @@ fn plan(alloc: Global, site: &mut Site, sites: u8, input: &Input) -> Mem<Ready>
     ensures state { (S : Standing) → IsUp S site.old → IsUp S site.new }
     ensures site { site_of site.new ≡ site_of site.old }
     ensures catalog { catalog_of site.new ≡ catalog_of site.old }
+    ensures rests { input.now ≡ Asked.Tick → site.new ≡ site.old }
     ensures standing { IsStanding site.old }
 {
     let plan = site.plan(input)?;

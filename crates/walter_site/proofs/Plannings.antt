@@ -1,5 +1,5 @@
 -- What holds of a plan that is the rule's.
-use Rattle.std.proofs.Common.{◌≡◌, ℕ, true, Option, Result, Ok, Err, OnErr, All, IfSome, IsSome, ap, sym, ◌∙◌, subst}
+use Rattle.std.proofs.Common.{◌≡◌, ℕ, true, Option, None, Result, Ok, Err, OnErr, All, IfSome, IsSome, ap, sym, ◌∙◌, subst}
 use Rattle.walter_base.specs.declared.catalog.Catalog.{Catalog}
 use Rattle.walter_base.specs.declared.message.BadFrame.{BadFrame}
 use Rattle.walter_base.specs.declared.message.Record.{Record}
@@ -32,6 +32,11 @@ use Rattle.walter_site.proofs.Up.{sound_at, open_at, most_at, starts_kept}
 pub on_err : {T E : Type 0} (P : Type 0) (r : Result T E) → P → OnErr r P
 on_err P (Ok x) holds = tt
 on_err P (Err e) holds = holds
+
+-- a tick has no record
+pub tick_wrote : (t : Tables) (K : Knowledge) (input : Input) (p : Planned)
+    → expected_of p ≡ input_rule (catalog_of t) (site_of t) K input → input ≡ Tick → p.rec ≡ None
+tick_wrote t K input p ruled tick = ap (λ e. e.wrote) (ruled ∙ ap (input_rule (catalog_of t) (site_of t) K) tick)
 
 module _ (t : Tables) (K : Knowledge) (S : Knows t K) (input : Input) (p : Planned)
     (ruled : expected_of p ≡ input_rule (catalog_of t) (site_of t) K input) where

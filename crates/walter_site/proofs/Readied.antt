@@ -13,7 +13,8 @@ use Rattle.walter_base.specs.declared.names.SiteId.{SiteId}
 use Rattle.walter_base.specs.declared.update.Update.{Update}
 use Rattle.walter_base.specs.Vectors.{entry_at}
 use Rattle.walter_durable.specs.Marks.{HoldingsWithRoom, CanJournal}
-use Rattle.walter_history.specs.Lines.{Line}
+use Rattle.walter_cset.specs.Totals.{Table as Totals, HavePlaces}
+use Rattle.walter_history.specs.Lines.{Table as History}
 use Rattle.walter_locks.specs.Parts.{Table as Locks, part_of, owner_of, CanLock, CanRelease}
 use Rattle.walter_log.specs.Logged.{Logged, room_of}
 use Rattle.walter_site.specs.Plans.{CanKeepAny, CanTakeIn}
@@ -32,7 +33,7 @@ use Rattle.walter_spread.specs.Propagation.{Progress, own}
 use Rattle.walter_tables.specs.declared.made.Made.{Made}
 use Rattle.walter_tables.specs.declared.tables.Tables.{Tables}
 use Rattle.walter_tables.specs.Answering.{CanBeAnswered, CanAnswer}
-use Rattle.walter_tables.specs.Keeping.{GoesOn, HasRoomFor, IsMadeFor, IsKnownSite, AreUnlocked, objects_here, asked_of}
+use Rattle.walter_tables.specs.Keeping.{GoesOn, HasRoomFor, IsMadeFor, IsKnownSite, AreUnlocked, updates_at, objects_here, asked_of}
 use Rattle.walter_tables.specs.Open.{IsOpenAt}
 use Rattle.walter_tables.specs.Sites.{site_of, catalog_of}
 
@@ -49,10 +50,13 @@ module _ (old new : Tables) (site : new.site ≡ old.site) (catalog : new.catalo
       (subst (λ (s : SiteId). IsMadeFor old.catalog s rec made) (sym site) is)
 
   -- what a record needs of the tables
-  module _ (log : new.log ≡ old.log) (history : new.history ≡ old.history) (spread : new.spread ≡ old.spread)
+  module _ (log : new.log ≡ old.log) (history : new.history ≡ old.history) (totals : new.totals ≡ old.totals) (spread : new.spread ≡ old.spread)
       (durable : new.durable ≡ old.durable) (locks : new.locks ≡ old.locks) (slow : new.slow ≡ old.slow) where
     by_history : (updates : List Update) → HaveRoom old.history updates → HaveRoom new.history updates
-    by_history updates room = subst (λ (h : List (ObjId × Line)). HaveRoom h updates) (sym history) room
+    by_history updates room = subst (λ (h : History). HaveRoom h updates) (sym history) room
+
+    by_totals : (updates : List Update) → HavePlaces old.totals updates → HavePlaces new.totals updates
+    by_totals updates places = subst (λ (t : Totals). HavePlaces t updates) (sym totals) places
 
     by_log : (j : SiteId) → 0 < room_of old.log j → 0 < room_of new.log j
     by_log j room = subst (λ (l : Logged). 0 < room_of l j) (sym log) room
@@ -100,10 +104,15 @@ module _ (old new : Tables) (site : new.site ≡ old.site) (catalog : new.catalo
     room_kept (Own seq tx) room = (
       subst (λ s. 0 < room_of new.log s) (sym site) (by_log old.site room.0),
       by_history tx.updates room.1,
-      by_durable (λ d. 0 < d.room) room.2,
+      by_totals tx.updates room.2,
+      by_durable (λ d. 0 < d.room) room.3,
     )
     room_kept (Got j seq tx) room = (by_log j room.0, by_history tx.updates room.1)
-    room_kept (Seen j seq) room = by_locks (λ l. CanRelease l j) room
+    room_kept (Seen j seq) room = (
+      subst (λ (l : Logged). HavePlaces new.totals (updates_at j seq l.log)) (sym log)
+          (by_totals (updates_at j seq old.log.log) room.0),
+      by_locks (λ l. CanRelease l j) room.1,
+    )
     room_kept (Prepared j n tid objects) room = by_locks (λ l. CanLock l (length objects)) room
     room_kept (Released j n) room = by_locks (λ l. CanRelease l j) room
     room_kept (SlowBegin n tx) room = (
@@ -181,18 +190,18 @@ module _ (old new : Tables) (site : new.site ≡ old.site) (catalog : new.catalo
 
 -- what is made for a record stays so
 pub keeps_kept : (old new : Tables) → new.site ≡ old.site → new.catalog ≡ old.catalog → new.log ≡ old.log
-    → new.history ≡ old.history → new.spread ≡ old.spread → new.durable ≡ old.durable → new.locks ≡ old.locks
+    → new.history ≡ old.history → new.totals ≡ old.totals → new.spread ≡ old.spread → new.durable ≡ old.durable → new.locks ≡ old.locks
     → new.slow ≡ old.slow → (rec : Option Record) (made : Option Made) → CanKeepAny old rec made
     → CanKeepAny new rec made
 unfolding site_of catalog_of
-keeps_kept old new site catalog log history spread durable locks slow None None can = tt
-keeps_kept old new site catalog log history spread durable locks slow (Some rec) (Some made) can = record {
-  on = goes_kept old new site catalog log history spread durable locks slow rec can.on;
-  room = room_kept old new site catalog log history spread durable locks slow rec can.room;
+keeps_kept old new site catalog log history totals spread durable locks slow None None can = tt
+keeps_kept old new site catalog log history totals spread durable locks slow (Some rec) (Some made) can = record {
+  on = goes_kept old new site catalog log history totals spread durable locks slow rec can.on;
+  room = room_kept old new site catalog log history totals spread durable locks slow rec can.room;
   made_for = made_kept old new site catalog rec made can.made_for;
 }
-keeps_kept old new site catalog log history spread durable locks slow None (Some made) can = absurd can
-keeps_kept old new site catalog log history spread durable locks slow (Some rec) None can = absurd can
+keeps_kept old new site catalog log history totals spread durable locks slow None (Some made) can = absurd can
+keeps_kept old new site catalog log history totals spread durable locks slow (Some rec) None can = absurd can
 
 -- a record that goes on is of a site of the catalog
 pub known_site : (t : Tables) (rec : Record) → GoesOn t rec → IsKnownSite (catalog_of t) rec

@@ -1,5 +1,5 @@
 //! What is made for a plan, so that applying it takes no memory.
-ghost use Rattle.std.specs.Prelude.{◌≡◌, Option, IfOk, IfSome, IsSome, OnErr};
+ghost use Rattle.std.specs.Prelude.{◌≡◌, Option, None, IfOk, IfSome, IsSome, OnErr};
 ghost use Rattle.walter_base.specs.declared.message.Record.{Record as Written};
 ghost use Rattle.walter_site.specs.Plans.{CanKeepAny, CanTakeIn, CanBeAnsweredAny, TakesRoomIn};
 ghost use Rattle.walter_tables.specs.declared.made.Made.{Made as MadeFor};
@@ -18,6 +18,7 @@ pub fn make_ready(tables: &mut Tables, rec: &MaybeRecord) -> Mem<Option<Made>>
     requires on { IfSome rec.now (GoesOn tables.old) }
     ensures keeps { IfOk result (CanKeepAny tables.new rec.now) }
     ensures free { OnErr result (IsSome rec.now) }
+    ensures none { rec.now ≡ None → tables.new ≡ tables.old }
     ensures stands { (K : Knowledge) → Stands tables.old K → Stands tables.new K }
     ensures sessions { tables.new.sessions ≡ tables.old.sessions }
     ensures site { site_of tables.new ≡ site_of tables.old }
@@ -38,6 +39,7 @@ pub fn ready_answer(tables: &mut Tables, input: &Input, outcome: &Outcome) -> Me
     requires fits { CanBeAnsweredAny tables.old input.now outcome.now }
     ensures takes_in { IfOk result (CanTakeIn tables.new input.now outcome.now) }
     ensures free { OnErr result (TakesRoomIn input.now outcome.now) }
+    ensures rests { input.now ≡ Given.Tick → tables.new ≡ tables.old }
     ensures keeps { (rec : Option Written) (made : Option MadeFor) → CanKeepAny tables.old rec made
         → CanKeepAny tables.new rec made }
     ensures stands { (K : Knowledge) → Stands tables.old K → Stands tables.new K }

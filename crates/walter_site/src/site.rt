@@ -35,12 +35,14 @@ impl Site {
     ghost use Rattle.walter_site.specs.Members.{Knows, IsStanding, input_rule, IsSizedPacket, IsSizedInput, IsShortOutcome};
     ghost use Rattle.walter_site.specs.Plans.{IsReady};
     ghost use Rattle.walter_rules.specs.declared.event.Event.{Event};
+    ghost use Rattle.walter_rules.specs.declared.event.Input.{Input as Given};
     ghost use Rattle.walter_rules.specs.Deliveries.{IsLeastEnabled};
     ghost use Rattle.walter_rules.specs.Knowledge.{Knowledge};
     ghost use Rattle.walter_rules.specs.Learning.{after};
     ghost use Rattle.walter_rules.specs.Records.{CanFollow, IsRecordAmong};
     ghost use Rattle.walter_rules.specs.Trails.{TakesMemory};
     ghost use Rattle.walter_session.specs.Sessions.{sessions_of};
+    ghost use Rattle.walter_tables.specs.Folding.{IsTidy};
     ghost use Rattle.walter_tables.specs.Planning.{expected_of};
     ghost use Rattle.walter_tables.specs.Sites.{site_of, catalog_of};
 
@@ -50,6 +52,17 @@ impl Site {
         ensures { result ≡ tables }
     {
         Site { tables }
+    }
+
+    /// Folds all rows at the floor, so that none is longer than those who read need. It takes no memory, and nothing that
+    /// is read changes.
+    pub fn tidy(&mut self)
+        ensures tidy { IsTidy self.new }
+        ensures knows { (K : Knowledge) → Knows self.old K → Knows self.new K }
+        ensures site { site_of self.new ≡ site_of self.old }
+        ensures catalog { catalog_of self.new ≡ catalog_of self.old }
+    {
+        self.tables.tidy();
     }
 
     /// The plan of the rule for an input. It takes all the memory that applying it needs, and changes nothing that can
@@ -65,6 +78,7 @@ impl Site {
         ensures short { IfOk result (λ p. IsShortOutcome p.planned.outcome) }
         ensures sent { IfOk result (λ p. All (λ s. IsSizedPacket (catalog_of self.old).sites s.1) p.planned.sends) }
         ensures free { OnErr result (TakesMemory true (Event.Given input.now)) }
+        ensures rests { input.now ≡ Given.Tick → self.new ≡ self.old }
         ensures standing { IsStanding self.old }
         ensures knows { (K : Knowledge) → Knows self.old K → Knows self.new K }
         ensures site { site_of self.new ≡ site_of self.old }

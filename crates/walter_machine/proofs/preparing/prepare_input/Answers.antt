@@ -27,8 +27,10 @@ pub returns-in-None-clause-ready : goal.returns-in-None-clause-ready
 returns-in-None-clause-ready c = λ catalog i S sites of state owes.
     let up = subst (λ (o : Option Tables). IsState S o) c.in-Some.is state in
     let here = subst (λ (o : Option Tables). IfSome o (IsOf catalog i)) c.in-Some.is of in
-    ready_here (Some c.plan.new.site) S (Given c.args.input.now) c.in-Some.site catalog i here c.plan.result
-    (c.plan.ensures.ready S c.args.owed up owes (sym c.in-None.ensures))
+    let tidied = c.tidy_at.ensures in
+    ready_here (Some c.plan.new.site) S (Given c.args.input.now) c.tidy_at.new.site catalog i
+    (tidied.site ∙ here.0, tidied.catalog ∙ here.1) c.plan.result
+    (c.plan.ensures.ready S c.args.owed (tidied.state S up) owes (sym c.in-None.ensures))
 
 pub returns-in_default-clause-anyway : goal.returns-in_default-clause-anyway
 returns-in_default-clause-anyway c = λ catalog i gone sites of owes. record {
@@ -51,6 +53,8 @@ returns-in-None-clause-anyway c = λ catalog i gone sites of owes.
     let here = subst (λ (o : Option Tables). IfSome o (IsOf catalog i)) c.in-Some.is of in
     let known = c.plan.ensures.standing in
     let S = up_owing known.0 gone in
+    let tidied = c.tidy_at.ensures in
     if_ok c.plan.result _ _ (λ (r : Ready) ready. record { S = S; ready_for = ready })
-    (ready_here (Some c.plan.new.site) S (Given c.args.input.now) c.in-Some.site catalog i here c.plan.result
+    (ready_here (Some c.plan.new.site) S (Given c.args.input.now) c.tidy_at.new.site catalog i
+    (tidied.site ∙ here.0, tidied.catalog ∙ here.1) c.plan.result
     (c.plan.ensures.ready S c.args.owed (record { up = refl; knows = known.1; settled = refl }) owes (sym c.in-None.ensures)))

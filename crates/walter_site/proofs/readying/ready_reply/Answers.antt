@@ -10,14 +10,14 @@ pub returns-in_err-reserve_reply-clause-keeps : goal.returns-in_err-reserve_repl
 unfolding site_of catalog_of
 returns-in_err-reserve_reply-clause-keeps c =
     let is = c.in_err-reserve_reply.ensures in
-    keeps_kept c.args.tables.now c.reserve_reply.new.self is.site is.catalog is.log is.history is.spread is.durable
+    keeps_kept c.args.tables.now c.reserve_reply.new.self is.site is.catalog is.log is.history is.totals is.spread is.durable
     is.locks is.slow
 
 pub returns-clause-keeps : goal.returns-clause-keeps
 unfolding site_of catalog_of
 returns-clause-keeps c =
     let is = c.in_ok-reserve_reply.ensures in
-    keeps_kept c.args.tables.now c.reserve_reply.new.self is.site is.catalog is.log is.history is.spread is.durable
+    keeps_kept c.args.tables.now c.reserve_reply.new.self is.site is.catalog is.log is.history is.totals is.spread is.durable
     is.locks is.slow
 
 pub returns-clause-takes_in : goal.returns-clause-takes_in

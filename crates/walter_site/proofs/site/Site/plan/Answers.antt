@@ -1,11 +1,11 @@
-use Rattle.std.proofs.Common.{true, All, IfSome, sym, subst}
+use Rattle.std.proofs.Common.{true, All, IfSome, sym, ◌∙◌, subst}
 use Rattle.walter_site.specs.Members.{Knows, IsSizedPacket, IsSizedInput}
 use Rattle.walter_rules.specs.declared.event.Event.TheVariants.{Given}
 use Rattle.walter_rules.specs.Knowledge.{Knowledge}
 use Rattle.walter_rules.specs.Records.{CanFollow, IsRecordAmong}
 use Rattle.walter_rules.specs.Trails.{TakesMemory}
 use Rattle.walter_tables.specs.Sites.{site_of, catalog_of}
-use Rattle.walter_site.proofs.Plannings.{plan_follows, plan_recorded, plan_sent, plan_short, plan_wants_record, plan_wants_room, plan_fits, on_err}
+use Rattle.walter_site.proofs.Plannings.{tick_wrote, plan_follows, plan_recorded, plan_sent, plan_short, plan_wants_record, plan_wants_room, plan_fits, on_err}
 use Rattle.walter_site.proofs.site.Site.plan.Goals as goal
 
 pub returns-in_err-made-clause-free : goal.returns-in_err-made-clause-free
@@ -38,6 +38,13 @@ ready_answer-requires c =
       fits = plan_fits t c.make_ready.new.tables K (made.stands K stands) made.site made.catalog c.args.input.now
           c.in_ok-planned.planned (c.in_ok-planned.ensures.rule K stands);
     }
+
+pub returns-clause-rests : goal.returns-clause-rests
+returns-clause-rests c = λ tick.
+    let t = c.self.inside.tables in
+    let none = tick_wrote t c.self.invariant.0 c.args.input.now c.in_ok-planned.planned
+    (c.in_ok-planned.ensures.rule c.self.invariant.0 c.self.invariant.1.stands) tick in
+    c.ready_answer.ensures.rests tick ∙ c.make_ready.ensures.none none ∙ c.self.view_is
 
 pub returns-clause-follows : goal.returns-clause-follows
 returns-clause-follows c =
