@@ -43,6 +43,10 @@ def deciding(*tid):
     return bytes([DECIDING]) + name_of(tid)
 
 
+def modified(oid, *version):
+    return bytes([ABORTED]) + conflict_of((MODIFIED, oid, version))
+
+
 def locked(oid, tid):
     return bytes([ABORTED]) + conflict_of((LOCKED, oid, tid))
 
@@ -357,6 +361,20 @@ def a_window_that_is_full():
     return row
 
 
+def a_fold_keeps_snapshots():
+    """Behind a tick an older transaction reads as before, and is aborted over the first version outside its snapshot."""
+    row, oid = Row(1, 0, [REGULAR_AT_0], (0, 0)), (1, 1)
+    row.calls(0, (START_IT, started(0, 1, 1)))
+    for number, content in enumerate((b"a", b"b", b"c"), 1):
+        row.begins(1, (0, 1, 1 + number), (oid, content))
+        row.call(1, COMMIT_IT, committed(0, number), "Own")
+    row.step("tick", 0, to="passed")
+    row.calls(0, (read(oid), value(None)), (write(oid, b"d"), DONE_IT), (COMMIT_IT, modified(oid, 0, 1)))
+    row.step("tick", 0, to="passed")
+    row.calls(0, (START_IT, started(0, 1, 5)), (read(oid), value(b"c")))
+    return row
+
+
 ROWS = {
     "a long fork": long_fork,
     "a set cancels out": a_set_cancels_out,
@@ -374,6 +392,7 @@ ROWS = {
     "a lock of what the snapshot has is waited for": the_lock_of_a_cause,
     "three commits are under way at once": a_window_of_three,
     "a window is full": a_window_that_is_full,
+    "a fold keeps snapshots": a_fold_keeps_snapshots,
 }
 
 
