@@ -2,10 +2,11 @@
 """Plays random scenarios, and compares each report and trace with those of the plain model in model.py.
 
 They are those of generator.py: of one site and of several, over journals of one area and of two, some by a link, one of
-fourteen made to come to a limit; with --several those of two to eight sites alone, as many as are asked for. Where the program
-refuses the key `areas`, and with --one-area, none has it. Says how often each reply, reason of a refusal, outcome, record and
-packet was met, what the pumps did and the link chose, what restarts did with areas, and each limit, with a number at it and
-with one above it; and which of these were not met. Then some made scenarios of the command `load` are played, and their
+eleven with transactions that stay open while rows may be folded, one of fourteen made to come to a limit; with --several those
+of two to eight sites alone, as many as are asked for. Where the program refuses the key `areas`, and with --one-area, none has
+it. Says how often each reply, reason of a refusal, outcome, record and packet was met, what the pumps did and the link chose,
+what restarts did with areas, what folds would have met, and each limit, with a number at it and with one above it; and which of
+these were not met. Then some made scenarios of the command `load` are played, and their
 summaries compared. Ends with status 1 where a scenario differs, and prints its seed and the first line that does. With
 --unproved the program is run without any proof, by `rt try`, on all scenarios together but those of `load`, and what this says
 of each that differs is printed; with --model the model plays alone, and nothing is compared.
@@ -21,6 +22,7 @@ import sys
 import tempfile
 from collections import Counter
 
+import folds
 import loads
 import model
 from generator import scenario
@@ -60,7 +62,7 @@ AT_LIMITS = {
     "commits in a window": 64,
 }
 LIMITS = [f"{what} {number:,}" for what, limit in AT_LIMITS.items() for number in (limit, limit + 1)]
-ALL = SITES + REPLIES + OUTCOMES + RECORDED + VOTES + RULES + DELIVERIES + PUMPS + LINKS + LIMITS
+ALL = SITES + REPLIES + OUTCOMES + RECORDED + VOTES + RULES + DELIVERIES + PUMPS + LINKS + folds.FOLDS + LIMITS
 # What the model counts of journals where there are areas: what restarts do with two, and records for which there is no place.
 AREAS = ["load fails", "pack into A", "pack into B", "pack fails before the switch byte", "pack fails at the switch byte",
          "full behind a pack", "full, of 1 area", "full, of 2 areas"]
@@ -203,7 +205,7 @@ def main():
     met = Counter()
     with tempfile.TemporaryDirectory() as folder:
         for seed, made in made_from(words.seed, words.scenarios, words.several, areas):
-            run = model.played(made, met)
+            run = folds.played(made, met)
             if program:
                 compare([program, "play", "--trace"], f"seed {seed}", json.dumps(made), run.text())
             elif words.unproved:

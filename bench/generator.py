@@ -1,12 +1,14 @@
 """Random scenarios, each by its seed: of one site and of several, some by a link, and some that come to a limit.
 
-Of fourteen seeds in a row one makes a scenario that comes to a limit: a site's open transactions, the updates and the bytes of
-a transaction, the ids of a set, the bytes of a value and of a frame, the packets of a lane, the commits in a window, the ticks
-of a pump. Two make one of one site, and eleven one of several, in the kinds of `SEVERAL`. These are made beside a run of the
-plain model, which tells which packets there are: so most deliveries find one, in order or not, again, late or never. In three
-of the kinds sites are pumped too, by a link of any rates, and so they are in some of one site. Most have journals of two areas,
-with about as many bytes for each as a journal of one area would have; of some the capacity is one at which a record just fits,
-or just doesn't. Arms are aimed at restarts too, at the calls of their loads, their packs and their Boots.
+Of eleven seeds in a row one makes a scenario in which rows may be folded, in the kinds of `FOLDED`: transactions stay open
+while others commit to the same few objects and sites tick. Of the others, of fourteen in a row one makes a scenario that comes
+to a limit: a site's open transactions, the updates and the bytes of a transaction, the ids of a set, the bytes of a value and
+of a frame, the packets of a lane, the commits in a window, the ticks of a pump. Two make one of one site, and eleven one of
+several, in the kinds of `SEVERAL`. All but those of one site and those at limits are made beside a run of the plain model,
+which tells which packets there are: so most deliveries find one, in order or not, again, late or never. In three of the kinds
+sites are pumped too, by a link of any rates, and so they are in some of one site. Most have journals of two areas, with about
+as many bytes for each as a journal of one area would have; of some the capacity is one at which a record just fits, or just
+doesn't. Arms are aimed at restarts too, at the calls of their loads, their packs and their Boots.
 """
 
 import random
@@ -287,7 +289,7 @@ class Maker:
     def __init__(self, rng, kind, areas=True):
         self.rng, self.kind, self.steps = rng, kind, []
         self.sites = rng.choice(kind.sites)
-        self.made = {"sites": self.sites, "f": rng.choice([0, 0, 1, rng.randrange(self.sites)]),
+        self.made = {"sites": self.sites, "f": min(self.sites - 1, rng.choice([0, 0, 1, rng.randrange(self.sites)])),
                      "containers": self.containers(), "clients": self.clients()}
         if kind.short:
             # A slow commit begins where its coordinator has about 140 bytes, and its locks take about 40 at each participant.
@@ -412,6 +414,90 @@ def several(rng, kind, areas=True):
     return Maker(rng, SEVERAL[kind], areas).scenario(rng.randint(20, 300))
 
 
+# Scenarios in which ticks may fold rows
+
+# The kinds, as those of `SEVERAL`. Transactions of the first clients stay open while others commit.
+FOLDED = {
+    "folded alone": Kind((1,), (80, 0, 0, 12, 1.2, 2, 0.2, 0), 0, 0, 0.05, False, 0.3),
+    "folded": Kind((2, 2, 3), (60, 60, 9, 12, 0.8, 2, 0.2, 0), 0.25, 0.15, 0.05, False, 0.3),
+    "folded and pumped": Kind((2, 2, 3), (60, 6, 1, 7, 0.5, 0.3, 0.2, 55), 0.1, 0.2, 0.05, False, 0.3),
+}
+CHANGES_AND_READS = [model.WRITE, model.SET_ADD, model.SET_DEL, model.READ, model.SET_READ, model.SET_READ_ID]
+
+
+class FoldedMaker(Maker):
+    """A scenario in which the first clients have transactions open for long, and the others commit to the same few objects,
+    mostly at once; between their commits sites tick."""
+
+    def containers(self):
+        """Of the regular objects each site prefers some, as far as there are containers."""
+        made = super().containers()
+        return [[number, kind, place % self.sites] for place, (number, kind, _) in enumerate(made)]
+
+    def clients(self):
+        self.slow = self.rng.randint(1, 3)
+        sites = [self.rng.randrange(self.sites) for _ in range(self.slow + self.rng.randint(1, 4))]
+        # Where all that stay open are of one site, the others fold what these haven't seen.
+        if self.rng.random() < 0.5:
+            sites[: self.slow] = [sites[0]] * self.slow
+        return [[site, (self.of_slow if number < self.slow else self.of_quick)(site)] for number, site in enumerate(sites)]
+
+    def preferred(self, site):
+        """The containers of regular objects that a site prefers, or any where it prefers none."""
+        made = [number for number in self.regular() if sorted((2, *self.regular())).index(number) % self.sites == site]
+        return made or self.regular()
+
+    def requests(self, weights, count, regular):
+        return [request(self.rng, operation, True, regular)
+                for operation in self.rng.choices(CHANGES_AND_READS, weights, k=count)]
+
+    def of_slow(self, site):
+        """Transactions that read again and again, over updates of their own: some ask other sites, some have no updates."""
+        bodies = []
+        for _ in range(self.rng.randint(2, 6)):
+            weights = self.rng.choice([(0, 0, 0, 2, 2, 2), (1, 2, 2, 4, 4, 4), (4, 1, 1, 4, 2, 2), (4, 1, 1, 4, 2, 2)])
+            regular = self.rng.choice([self.regular(), self.preferred(site)])
+            bodies += [START, *self.requests(weights, self.rng.randint(2, 14), regular)]
+            bodies += [ABORT if self.rng.random() < 0.1 else COMMIT, *[COMMIT] * self.rng.choice([0, 0, 1, 2])]
+        return frames(bodies).hex()
+
+    def of_quick(self, site):
+        """Transactions of a few updates, of which most are decided at once; and some that read what is committed."""
+        bodies = []
+        for _ in range(self.rng.randint(5, 40)):
+            weights = self.rng.choice([(4, 4, 3, 1, 1, 1), (4, 4, 3, 1, 1, 1), (0, 0, 0, 1, 1, 1)])
+            regular = self.preferred(site) if self.rng.random() < 0.9 else self.regular()
+            bodies += [START, *self.requests(weights, self.rng.randint(1, 4), regular), COMMIT]
+            bodies += [level(site, 1, self.rng.randint(1, 9))] * self.rng.choice([0, 0, 0, 0, 1])
+        return frames(bodies).hex()
+
+    def call(self):
+        """Mostly all calls of a transaction, as far as it is begun; and sometimes one of a transaction that stays open."""
+        clients = self.made["clients"]
+        if self.rng.random() < 0.35:
+            return ["call", self.rng.randrange(self.slow)]
+        client = self.rng.randrange(self.slow, len(clients))
+        open_here = self.run.sites[clients[client][0]].sessions
+        for _ in range(6):
+            self.take(["call", client])
+            if client not in open_here:
+                break
+        return ["call", client]
+
+    def deliver(self):
+        return super().deliver() if self.sites > 1 else self.call()
+
+    def scenario(self, count):
+        for client in range(self.slow):
+            if self.rng.random() < 0.7:
+                self.take(["call", client])
+        return super().scenario(count)
+
+
+def folded(rng, kind, areas=True):
+    return FoldedMaker(rng, FOLDED[kind], areas).scenario(rng.randint(40, 250))
+
+
 def full_lane(rng):
     """A site says two packets again until about as many wait for another as a lane may have; then one of them comes."""
     client = [0, frames([START, on_set(model.SET_ADD, (2, 1), 9), COMMIT]).hex()]
@@ -457,12 +543,24 @@ def many_ticks(rng):
 AT_LIMIT = [many_open, many_updates, many_bytes, many_ids, long_value, long_frame, full_lane, full_window, many_ticks]
 # Of so many seeds in a row: what is made by each but the first.
 BY_SEED = [None, "one", "one", *SEVERAL]
+# Of so many seeds in a row the last makes a scenario in which rows may be folded, and none of its kind in `BY_SEED`. The two
+# numbers have no common divisor, so each kind is made by most of its seeds.
+FOLDED_EVERY = 11
+
+
+def kind_of(seed):
+    """The kind of a seed's scenario; none where it comes to a limit."""
+    if seed % FOLDED_EVERY == FOLDED_EVERY - 1:
+        return list(FOLDED)[seed // FOLDED_EVERY % len(FOLDED)]
+    return BY_SEED[seed % len(BY_SEED)]
 
 
 def scenario(seed, areas=True):
     """The scenario of a seed; where no areas are asked for none has the key `areas`."""
-    rng, kind = random.Random(seed), BY_SEED[seed % len(BY_SEED)]
-    if kind in (None, "one"):
+    rng, kind = random.Random(seed), kind_of(seed)
+    if kind in FOLDED:
+        made = folded(rng, kind, areas)
+    elif kind in (None, "one"):
         made = small(rng) if kind else AT_LIMIT[seed // len(BY_SEED) % len(AT_LIMIT)](rng)
         made.update(areas_of(rng, made) if areas else {})
     else:
