@@ -18,7 +18,7 @@ import tempfile
 import time
 
 from compare import built
-from growth import at_one_site, commits_of
+from growth import commits_of, in_turns
 
 RUNS, COMMITS = 3, 2_000
 CLIENTS = 8
@@ -28,7 +28,7 @@ RECORD = 124
 
 def scenario(commits):
     """One client commits so many transactions of one write."""
-    return at_one_site([commits_of(range(commits))], [0] * (3 * commits))
+    return in_turns([commits_of(range(commits))], [0] * (3 * commits))
 
 
 def threaded(commits, threads):

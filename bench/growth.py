@@ -14,6 +14,18 @@ With --restarts it plays other scenarios, by the program or with --model by the 
 took, in the first half and in the second; the bytes of the journal in the end, and how many of these count; and how many were
 ever written for records and packs. Of two areas a restart writes a pack of all records, and the journal doesn't grow by it.
 
+With --memory it measures how much memory a run takes beside its trail: 90,000 events of one site over a hundred objects, with a
+Tick at each 100th. No program tells what its trail takes, so that is made up of two things:
+
+- What a run grows by for each event that is the same but for the commits, each of which is an abort there: its entries are alike,
+  and nothing is kept but these. The report is taken off. It is the growth from half of the events to all, over the same input, so
+  that neither the program nor the scenario counts.
+- The bytes of the records that the committing run's entries have besides, as docs/FORMATS.md spells them. In memory they take
+  more, so the trail may take more than is told, and the ratio is rather too high.
+
+The run is to grow by 1.5 times as much for each event at most. That has the journal, the rows, the list of what is committed and
+the report. The most memory of the whole runs is told too, where input and program count on both sides.
+
 With --example it plays nothing, and writes one of the two big examples. Both are made so, and the scripts beside them:
 
     for run in ten_thousand_calls five_thousand_transactions; do
@@ -27,6 +39,7 @@ import itertools
 import json
 import os
 import re
+import shlex
 import subprocess
 import sys
 import tempfile
@@ -35,10 +48,12 @@ from collections import Counter, namedtuple
 from string import ascii_lowercase
 
 import journals
+import kinds
 import model
 from compare import built
+from generator import ABORT as ABORT_IT, COMMIT as COMMIT_IT
 from loads import load_words
-from measured import events_of, measured, microseconds
+from measured import events_of, measured, measured_of, microseconds
 from model import WINDOW
 
 CLIENTS = 10
@@ -47,6 +62,7 @@ MOST_BYTES, MOST_ENTRIES = 16_777_216, 100_000
 START, COMMIT = "0000000101", "0000000108"
 LOADS, SEED, RUNS = (2_000, 6_000, 20_000), 7, 5
 RESTARTS, COMMITS = 1_000, (10, 2_000)
+EVENTS, MOST_TIMES = 90_000, 1.5
 # How many bytes of a journal the records take that a commit of one write of one byte makes, and a restart.
 COMMIT_SIZE, BOOT_SIZE = 119, 10
 
@@ -66,10 +82,9 @@ def commits_of(numbers):
     return "".join(START + write(1, number) + COMMIT for number in numbers)
 
 
-def at_one_site(sent, turns):
-    clients = ",".join(f'[0,"{frames}"]' for frames in sent)
-    steps = ",".join(f'["call",{client}]' for client in turns)
-    return f'{{"sites":1,"f":0,"containers":[[1,"regular",0]],"clients":[{clients}],"steps":[{steps}]}}'
+def in_turns(sent, turns):
+    """One site with regular objects, whose clients send these, and have these turns."""
+    return kinds.text_of(kinds.at_one_site([[1, "regular", 0]], sent, [["call", client] for client in turns]))
 
 
 def scenario(calls):
@@ -78,14 +93,14 @@ def scenario(calls):
     for number in range(transactions):
         sent[number % CLIENTS] += transaction(number)
     # A client's four calls come one after another, so no two transactions are open at once.
-    return at_one_site(sent, [number % CLIENTS for number in range(transactions) for _ in range(4)])
+    return in_turns(sent, [number % CLIENTS for number in range(transactions) for _ in range(4)])
 
 
 def ten_thousand_calls():
     """Ten clients take turns, each over an object of its own, in which its transactions write one letter after another."""
     letters = [ascii_lowercase[number % 26] for number in range(10_000 // 4 // CLIENTS)]
     sent = ["".join(transaction(client + 1, letter) for letter in letters) for client in range(CLIENTS)]
-    return at_one_site(sent, [number % CLIENTS for number in range(10_000)])
+    return in_turns(sent, [number % CLIENTS for number in range(10_000)])
 
 
 class Spread:
@@ -163,11 +178,11 @@ class Behind:
 
 
 def spread(transactions):
-    return json.dumps(Spread(transactions).made(), separators=(",", ":"))
+    return kinds.text_of(Spread(transactions).made())
 
 
 def behind(transactions):
-    return json.dumps(Behind(transactions).made(), separators=(",", ":"))
+    return kinds.text_of(Behind(transactions).made())
 
 
 EXAMPLES = {"ten_thousand_calls": ten_thousand_calls, "five_thousand_transactions": lambda: spread(5_000)}
@@ -208,10 +223,7 @@ def time_of(program, text, transactions):
 
 def memory(program, text):
     """The most memory that a run takes, in MB."""
-    with tempfile.TemporaryFile("w+") as source:
-        source.write(text)
-        source.seek(0)
-        return measured([program, "play"], source).megabytes
+    return measured_of([program, "play"], text).megabytes
 
 
 def load_lines(program):
@@ -311,6 +323,55 @@ def restart_lines(player, restarts):
             yield restart_line(player, areas, commits, restarts)
 
 
+# Memory beside the trail
+
+
+def commits_in(run):
+    """How many commits a run of one site has journaled, by its report: its other record is the Boot."""
+    return int(re.search(r"^site 0 .* records (\d+) ", run.written, re.M)[1]) - 1
+
+
+def size_of_own():
+    """How many bytes the record of a commit has, in the middle of a write and an add."""
+    updates = (model.WRITE, (1, 1), bytes(8)), (model.SET_ADD, (2, 1), 1)
+    return sum(len(model.record_of((model.OWN, 1, model.Tx((0, 1, 1), 0, (0,), (update,))))) for update in updates) / 2
+
+
+def runs_of(command, end, events):
+    """A run without an event behind the first, one of half of the events, and one of all, over the same input."""
+    made = kinds.many_objects(events, end)
+    return [measured_of([*command, "play"], kinds.text_of(kinds.quiet_behind(made, count))) for count in (1, events // 2, events)]
+
+
+def memory_lines(command, events=EVENTS):
+    """The lines that tell of the memory of a run beside its trail."""
+    count = events - events // 2
+
+    def by_event(half, whole):
+        return (whole.megabytes - half.megabytes) * 1_000_000 / count
+
+    (none, *committing), (_, *aborting) = (runs_of(command, end, events) for end in (COMMIT_IT, ABORT_IT))
+    report = sum(sign * len(run.written) for sign, run in zip((-1, 1), aborting)) / count
+    commits = [commits_in(run) for run in committing]
+    records = (commits[1] - commits[0]) * size_of_own() / count
+    grown, alike = by_event(*committing), by_event(*aborting)
+    trail = alike - report + records
+    yield (f"one site, {events:,} events over {len(kinds.OBJECTS)} objects, {commits[1]:,} commits, a Tick at each {kinds.EVERY}th "
+           "event")
+    yield f"the input alone: {none.megabytes:.1f} MB"
+    yield f"the run: {committing[1].megabytes:.1f} MB, {grown:.0f} bytes for each event of its second half"
+    yield (f"with aborts in the place of commits: {aborting[1].megabytes:.1f} MB, {alike:.0f} bytes for each, of which {report:.0f} "
+           "are the report's")
+    yield f"the records that these lack: {records:.0f} bytes for each"
+    if trail <= 0 or aborting[0].megabytes < 1.02 * none.megabytes:
+        yield "what the trail takes isn't told: half of these events take no more than the input did before them"
+        return
+    yield (f"so the trail takes {trail:.0f} bytes for each, and the run {grown / trail:.2f} times that: "
+           f"{'within' if grown <= MOST_TIMES * trail else 'above'} {MOST_TIMES}")
+    whole = aborting[1].megabytes + commits[1] * size_of_own() / 1_000_000
+    yield f"in all the run takes {committing[1].megabytes / whole:.2f} times what the one with aborts and the records take"
+
+
 # The command
 
 
@@ -327,12 +388,13 @@ def play_growing(program):
 
 def main():
     parser = argparse.ArgumentParser(description=__doc__, formatter_class=argparse.RawDescriptionHelpFormatter)
-    parser.add_argument("program", nargs="?", help="the program; without it that of this repository, which ./walter proves "
-                        "and builds first where that isn't done yet")
+    parser.add_argument("program", nargs="?", help="the program, for --memory with its words before `play`, if any; without it "
+                        "that of this repository, which ./walter proves and builds first where that isn't done yet")
     parser.add_argument("--loads", action="store_true", help="play only the made scenarios of the command load")
     parser.add_argument("--restarts", action="store_true", help="play only stops and restarts of a site")
     parser.add_argument("--count", type=int, default=RESTARTS, metavar="N", help=f"how often the site restarts; {RESTARTS:,} "
                         "without it")
+    parser.add_argument("--memory", action="store_true", help="measure only how much memory a run takes beside its trail")
     parser.add_argument("--model", action="store_true", help="have the plain model play the restarts")
     parser.add_argument("--example", choices=EXAMPLES, help="write this example, and play nothing")
     words = parser.parse_args()
@@ -341,6 +403,10 @@ def main():
         return
     if words.model and not words.restarts or words.count < 2:
         parser.error("--model goes with --restarts, and a site restarts twice at least")
+    if words.memory:
+        for line in memory_lines(shlex.split(words.program) if words.program else [built()]):
+            print(line, flush=True)
+        return
     program = None if words.model else words.program or built()
     if not words.loads and not words.restarts:
         play_growing(program)

@@ -4,10 +4,12 @@ import json
 import re
 import subprocess
 import sys
+import tempfile
 from collections import namedtuple
 
-# A run: what was written, the seconds of processor time, user's and system's, and the most memory in MB.
-Measured = namedtuple("Measured", "written seconds megabytes")
+# A run: what was written, the seconds of processor time, user's and system's, and the most memory in MB; the status, and the
+# lines on standard error.
+Measured = namedtuple("Measured", "written seconds megabytes status said", defaults=(0, ()))
 # In a small process of its own: what a child took is never told as less than its parent had.
 RUN = """
 import json, os, sys
@@ -23,15 +25,34 @@ print(json.dumps([os.waitstatus_to_exitcode(status), took.ru_utime + took.ru_sti
 EVENTS = re.compile(r"^site \d+ .* events (\d+) ", re.M)
 
 
-def measured(words, source=None):
-    """Runs a command, whose standard input is this file. Ends where it doesn't end well."""
+def run_of(words, source=None):
+    """Runs a command, whose standard input is this file."""
     ended = subprocess.run([sys.executable, "-S", "-E", "-c", RUN, *words], stdin=source or subprocess.DEVNULL,
                            stdout=subprocess.PIPE, stderr=subprocess.PIPE, text=True, check=True)
     *said, last = ended.stderr.splitlines()
     status, seconds, kilobytes = json.loads(last)
-    if status != 0:
-        sys.exit(f"{words[0]} ended with status {status}" + "".join(f"\n{line}" for line in said))
-    return Measured(ended.stdout, seconds, kilobytes * 1024 / 1_000_000)
+    return Measured(ended.stdout, seconds, kilobytes * 1024 / 1_000_000, status, said)
+
+
+def fault_of(words, run):
+    """What is said of a run that didn't end well."""
+    return "\n".join([f"{words[0]} ended with status {run.status}", *run.said])
+
+
+def measured(words, source=None):
+    """The same of a command that is to end with status 0, and else is the end of this."""
+    run = run_of(words, source)
+    if run.status != 0:
+        sys.exit(fault_of(words, run))
+    return run
+
+
+def measured_of(words, text):
+    """The same, where standard input has this text."""
+    with tempfile.TemporaryFile("w+") as source:
+        source.write(text)
+        source.seek(0)
+        return measured(words, source)
 
 
 def events_of(text):

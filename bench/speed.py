@@ -3,23 +3,36 @@
 
     python3 bench/speed.py PLAIN
     python3 bench/speed.py "PLAIN --with its words" --program PATH --calls 6000
+    python3 bench/speed.py PLAIN --kinds all
+    python3 bench/speed.py PLAIN --kinds hot-set,long-rows-ticks
 
 Both play `load --seed N --calls M`, and are to write the same summary. The times are the processor's, user's and system's
 together. The ratios are the program's numbers to the other's: only these say something of another machine. The memory is the
 most that a run takes, where it is more than the 7 MB or so of the process that measures it.
+
+With --kinds both play the scenarios of kinds.py instead, and are to write the same reports, with status 0. There is a line for
+each, with the least and the median time in seconds, the memory in MB, the three ratios, and whether the ratios of both times keep
+the limit of 3. Where the two differ the line says so, and the status is 1.
 """
 
 import argparse
 import shlex
 import statistics
 import sys
+import tempfile
 
 import file_commits
+import kinds
 from compare import built, first_difference
 from loads import load_words
-from measured import events_of, measured, microseconds
+from measured import events_of, fault_of, measured, microseconds, run_of
 
 RUNS = 7
+# How many times the other's processor time the program may take. Of less than so many seconds the ratio says little.
+MOST_TIMES, LEAST_SECONDS = 3, 0.02
+LINE = "{:<16} {:>7} | {:>8} {:>8} {:>6} | {:>8} {:>8} {:>6} | {:>6} {:>6} {:>6} | {}"
+HEAD = [LINE.format("", "", *(side for name in ("program", "other") for side in (name, "", "")), "ratios", "", "", ""),
+        LINE.format("kind", "events", *("least s", "median s", "MB") * 2, "least", "median", "memory", "limit")]
 
 
 class Side:
@@ -28,9 +41,15 @@ class Side:
     def __init__(self, name, command):
         self.name, self.command, self.runs = name, command, []
 
-    def run(self, seed, calls):
+    def load(self, seed, calls):
         self.runs.append(measured(load_words(self.command, seed, calls)))
         return self.runs[-1].written
+
+    def play(self, source):
+        """Plays the scenario that is in a file."""
+        source.seek(0)
+        self.runs.append(run_of([*self.command, "play"], source))
+        return self.runs[-1]
 
     def least(self):
         return min(run.seconds for run in self.runs)
@@ -48,11 +67,15 @@ class Side:
 
 def summary_of(sides, seed, calls):
     """Runs each once, and gives the summary that both write."""
-    one, other = (side.run(seed, calls) for side in sides)
+    one, other = (side.load(seed, calls) for side in sides)
     if one != other:
-        sys.exit("the two write different summaries\n" + "\n".join(
-            f"{side.name}: {line}" for side, line in zip(sides, first_difference(one, other))))
+        sys.exit("the two write different summaries\n" + "\n".join(differing(sides, one, other)))
     return one
+
+
+def differing(sides, one, other):
+    """The first lines that differ of what both write, each with its side."""
+    return (f"{side.name}: {line[:300]}" for side, line in zip(sides, first_difference(one, other)))
 
 
 def ratio(one, other):
@@ -70,11 +93,74 @@ def compared(sides, seed, calls, runs):
            f"{ratio(one.median(), other.median())}, of the memory {ratio(one.memory(), other.memory())}")
 
 
+# The kinds
+
+
+def play_kind(sides, name, runs):
+    """Runs both in turn on the scenario of a kind. Gives what is to be told of them, where they don't end well or differ."""
+    with tempfile.TemporaryFile("w+") as source:
+        source.write(kinds.text_of(kinds.KINDS[name]()))
+        for _ in range(runs):
+            one, other = played = [side.play(source) for side in sides]
+            failed = [f"{side.name}: {fault_of(side.command, run)}" for side, run in zip(sides, played) if run.status != 0]
+            if failed:
+                return failed
+            if one.written != other.written:
+                return ["the two write different reports", *differing(sides, one.written, other.written)]
+    return []
+
+
+def limit_of(one, other):
+    """Whether the program keeps the limit, by the least times and by the medians."""
+    if other.least() < LEAST_SECONDS:
+        return "too short to tell"
+    keeps = one.least() <= MOST_TIMES * other.least() and one.median() <= MOST_TIMES * other.median()
+    return f"within {MOST_TIMES}" if keeps else f"above {MOST_TIMES}"
+
+
+def kind_line(sides, name):
+    one, other = sides
+    numbers = (f(side) for side in sides for f in (lambda side: f"{side.least():.3f}", lambda side: f"{side.median():.3f}",
+                                                   lambda side: f"{side.memory():.0f}"))
+    ratios = (ratio(one.least(), other.least()), ratio(one.median(), other.median()), ratio(one.memory(), other.memory()))
+    return LINE.format(name, f"{events_of(one.runs[-1].written):,}", *numbers, *ratios, limit_of(one, other))
+
+
+def compare_kinds(commands, names, runs):
+    """Prints a table with a line for each kind. Gives of how many kinds something is wrong."""
+    wrong = 0
+    print(f"{runs} runs of each in turn", *HEAD, sep="\n", flush=True)
+    for name in names:
+        sides = sides_of(*commands)
+        told = play_kind(sides, name, runs)
+        wrong += len(told) > 0
+        print(*([name + ": " + told[0], *told[1:]] if told else [kind_line(sides, name)]), sep="\n", flush=True)
+    return wrong
+
+
+def kinds_named(words):
+    """The kinds of these words, which are joined by commas: or all."""
+    names = list(kinds.KINDS) if words == "all" else words.split(",")
+    unknown = [name for name in names if name not in kinds.KINDS]
+    if unknown:
+        raise argparse.ArgumentTypeError(f"{unknown[0]!r} is none of {', '.join(kinds.KINDS)}, or all")
+    return names
+
+
+# The command
+
+
+def sides_of(program, other):
+    return [Side("the program", program), Side("the other", other)]
+
+
 def main():
     parser = argparse.ArgumentParser(description=__doc__, formatter_class=argparse.RawDescriptionHelpFormatter)
-    parser.add_argument("other", help="the other program, with the words that it takes before `load`, if any")
-    parser.add_argument("--program", metavar="PATH", help="the program; without it that of this repository, which ./walter "
-                        "proves and builds first where that isn't done yet")
+    parser.add_argument("other", help="the other program, with the words that it takes before `load` or `play`, if any")
+    parser.add_argument("--program", metavar="PATH", help="the program, with its words if it takes some; without it that of this "
+                        "repository, which ./walter proves and builds first where that isn't done yet")
+    parser.add_argument("--kinds", type=kinds_named, metavar="NAMES", help="play the scenarios of these kinds, joined by commas, "
+                        f"or of all: {', '.join(kinds.KINDS)}")
     parser.add_argument("--seed", type=int, default=7, metavar="N", help="the seed of the load; 7 without it")
     parser.add_argument("--calls", type=int, default=20_000, metavar="M", help="how many calls it has; 20000 without it")
     parser.add_argument("--runs", type=int, default=RUNS, metavar="K", help=f"how often each runs; {RUNS} without it")
@@ -83,11 +169,13 @@ def main():
     words = parser.parse_args()
     if words.runs < 1:
         parser.error("--runs wants a number from 1")
-    program = words.program or built()
-    sides = [Side("the program", [program]), Side("the other", shlex.split(words.other))]
-    for line in compared(sides, words.seed, words.calls, words.runs):
+    program = shlex.split(words.program) if words.program else [built()]
+    commands = program, shlex.split(words.other)
+    if words.kinds:
+        sys.exit(compare_kinds(commands, words.kinds, words.runs) > 0)
+    for line in compared(sides_of(*commands), words.seed, words.calls, words.runs):
         print(line, flush=True)
-    for line in file_commits.told(program, None, words.commits, words.runs) if words.commits else []:
+    for line in file_commits.told(program[0], None, words.commits, words.runs) if words.commits else []:
         print(line, flush=True)
 
 

@@ -1,4 +1,4 @@
-"""What bench/speed.py and bench/growth.py measure of loads, by programs that are scripts here."""
+"""What bench/speed.py and bench/growth.py measure of loads and of kinds of scenarios, by programs that are scripts here."""
 
 import os
 import sys
@@ -7,6 +7,7 @@ from unittest import mock
 
 from played import InFolder, TOP, run_bench
 import growth
+import kinds
 import measured
 import speed
 
@@ -14,6 +15,8 @@ MODEL = f'#!/bin/sh\nexec {sys.executable} {os.path.join(TOP, "bench", "model.py
 TIME = r"\d+\.\d{3} s, \d+\.\d\d us an event"
 SIDE = rf"least {TIME}; median {TIME}; memory \d+ MB"
 RATIO = r"\d+\.\d\d"
+PLAYS = MODEL.replace("exec", "shift\nexec")
+SMALL = {"hot-set": lambda: kinds.hot_set(commits=3), "long-rows-ticks": lambda: kinds.long_rows(10, 4)}
 
 
 class Speed(InFolder):
@@ -64,6 +67,54 @@ class Speed(InFolder):
     def test_events_are_those_of_all_sites(self):
         self.assertEqual(measured.events_of("load seed 1 calls 1\nsite 0 up epoch 1 events 4 records 1 log 0\n"
                                             "site 1 down epoch 1 events 30 records 1 log 0\n"), 34)
+
+    def test_kinds_are_compared(self):
+        program, words = self.program("one", PLAYS), ["--kinds", "all", "--runs", "2"]
+        with mock.patch.dict(kinds.KINDS, SMALL, clear=True):
+            status, told = run_bench(speed, program, "--program", program, *words)
+        self.assertEqual(status, False)
+        first, *head, hot, long = told.splitlines()
+        self.assertEqual(([first], head), (["2 runs of each in turn"], speed.HEAD))
+        side = r"\d+\.\d{3} +\d+\.\d{3} +\d+"
+        for line, name, events in (hot, "hot-set", 19), (long, "long-rows-ticks", 24):
+            self.assertRegex(line, rf"^{name} +{events} \| +{side} \| +{side} \| +{RATIO} +{RATIO} +{RATIO} \| (within|above) 3$")
+
+    def test_kinds_run_in_turn_with_the_words_of_both(self):
+        log = os.path.join(self.folder, "log")
+        one, other = (self.program(name, f'#!/bin/sh\necho {name} "$@" >> {log}\nwc -c\necho "site 0 up events 4 "\n')
+                      for name in ("one", "other"))
+        with mock.patch.dict(kinds.KINDS, SMALL, clear=True):
+            status, told = run_bench(speed, f"{other} --stage 2", "--program", f"{one} --fast", "--runs", "2", "--kinds", "hot-set")
+        self.assertEqual((status, len(told.splitlines())), (False, 4))
+        self.assertIn("too short to tell", told)
+        with open(log, encoding="utf-8") as file:
+            self.assertEqual(file.read(), "one --fast play\nother --stage 2 play\n" * 2)
+
+    def test_kinds_that_differ_or_fail_are_told(self):
+        one, other, failing = (self.program(name, f"#!/bin/sh\necho same\necho {name}\n{end}\n")
+                               for name, end in (("one", ""), ("other", ""), ("failing", "echo why >&2; exit 5")))
+        with mock.patch.dict(kinds.KINDS, SMALL, clear=True):
+            status, told = run_bench(speed, other, "--program", one, "--kinds", "all")
+            self.assertEqual((status, told.splitlines()[3:]), (True, [
+                line for name in SMALL
+                for line in (f"{name}: the two write different reports", "the program: one", "the other: other")]))
+            status, told = run_bench(speed, failing, "--program", one, "--kinds", "hot-set")
+        self.assertEqual((status, told.splitlines()[3:]), (True, [f"hot-set: the other: {failing} ended with status 5", "why"]))
+
+    def test_the_limit_is_by_the_least_times_and_by_the_medians(self):
+        def side(*seconds):
+            made = speed.Side("a side", [])
+            made.runs = [measured.Measured("", number, 10) for number in seconds]
+            return made
+
+        self.assertEqual(speed.limit_of(side(0.3, 0.3, 0.3), side(0.1, 0.1, 0.1)), "within 3")
+        self.assertEqual(speed.limit_of(side(0.31, 0.31, 0.31), side(0.1, 0.11, 0.11)), "above 3")
+        self.assertEqual(speed.limit_of(side(0.1, 0.31, 0.31), side(0.1, 0.1, 0.1)), "above 3")
+        self.assertEqual(speed.limit_of(side(0.1), side(0.019)), "too short to tell")
+
+    def test_kinds_that_there_are_not(self):
+        with mock.patch("sys.stderr"):
+            self.assertEqual(run_bench(speed, "one", "--kinds", "hot-set,cold-set")[0], 2)
 
     def test_loads_grow(self):
         with mock.patch.object(growth, "LOADS", (5, 10)), mock.patch.object(growth, "RUNS", 1):

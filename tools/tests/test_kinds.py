@@ -1,0 +1,122 @@
+"""The scenarios of bench/kinds.py are what they are named for, and those by which memory is measured are alike."""
+
+import json
+import unittest
+from collections import Counter
+from unittest import mock
+
+from played import InFolder, run_bench
+from generator import ABORT, COMMIT
+import growth
+import kinds
+import measured
+import model
+import readings
+import spelled
+
+
+def played(made):
+    return model.played(made, Counter()).sites[0]
+
+
+def events_of(site):
+    return [entry.event.split(":")[-1] for entry in site.entries]
+
+
+def replies_to(site, *names):
+    """The replies to calls of these names, by client."""
+    for entry in site.entries:
+        word, *rest = entry.event.split(":")
+        if word == "call" and rest[1] in names:
+            yield int(rest[0]), bytes.fromhex(entry.outcome[len("reply:") :])[4:]
+
+
+class Kinds(unittest.TestCase):
+    def test_each_is_a_scenario_whose_calls_are_all_made(self):
+        for name, make in kinds.KINDS.items():
+            with self.subTest(name):
+                made = make()
+                text = kinds.text_of(made)
+                self.assertLess(len(text), growth.MOST_BYTES)
+                self.assertIsNotNone(readings.read(text.encode()))
+                self.assertLess(len(made["steps"]) + 1, growth.MOST_ENTRIES)
+                turns = Counter(step[1] for step in made["steps"] if step[0] == "call")
+                for number, (_, sent) in enumerate(made["clients"]):
+                    self.assertEqual(sum(1 for _ in model.calls_of(bytes.fromhex(sent), Counter())), turns[number])
+                ticks = {place + 2 for place, step in enumerate(made["steps"]) if step[0] == "tick"}
+                last = len(made["steps"]) + 1
+                self.assertEqual(ticks, set(range(100, last + 1, 100)) if name.endswith("-ticks") else set())
+
+    def test_a_hot_set_is_read_behind_each_commit(self):
+        site = played(kinds.hot_set(commits=200))
+        self.assertEqual(events_of(site)[1:13], ["start", "setadd", "commit", "start", "setreadid", "commit",
+                                                 "start", "setadd", "commit", "start", "setread", "commit"])
+        self.assertEqual(Counter(events_of(site))["setdel"], 80)
+        self.assertEqual((site.own(), len(site.rows)), (200, 1))
+        self.assertGreater(len(set(replies_to(site, "setread"))), 20)
+
+    def test_a_wide_set_stays_wide(self):
+        site = played(kinds.wide_set(rounds=250))
+        (_, whole), = replies_to(site, "setread")
+        self.assertEqual(whole[:5], spelled.struct.pack(">BI", spelled.SET, kinds.MOST_IDS))
+        self.assertEqual(Counter(events_of(site))["setreadid"], 2 * 249)
+        self.assertEqual(site.own(), 17 + 250)
+        self.assertEqual({reply[0] for _, reply in replies_to(site, "setadd", "setdel")}, {spelled.DONE})
+
+    def test_long_rows_have_an_old_reader(self):
+        site = played(kinds.long_rows(10, 1000))
+        self.assertEqual((site.own(), sorted(len(row) for row in site.rows.values())), (1000, [250] * 4))
+        old = Counter(reply for client, reply in replies_to(site, "read", "setread") if client == 2)
+        self.assertEqual((len(old), sum(old.values())), (4, 247))
+        self.assertGreater(len({reply for client, reply in replies_to(site, "read", "setread") if client == 1}), 300)
+
+    def test_runs_for_the_memory_are_alike(self):
+        committing, aborting = (played(kinds.many_objects(1000, end)) for end in (COMMIT, ABORT))
+        for site in committing, aborting:
+            self.assertEqual(len(site.entries), 1000)
+            self.assertEqual(sum(event == "tick" for event in events_of(site)), 10)
+        self.assertEqual([event.replace("abort", "commit") for event in events_of(aborting)], events_of(committing))
+        self.assertEqual((len(aborting.records), len(committing.records)), (1, 1 + Counter(events_of(committing))["commit"]))
+        self.assertEqual(len(committing.rows), 100)
+        sizes = [len(spelled.record_of(record)) for record in committing.records[1:]]
+        self.assertEqual(sum(sizes[:100]) / 100, growth.size_of_own())
+
+    def test_an_input_is_as_long_with_fewer_events(self):
+        made = kinds.many_objects(1000)
+        fewer = kinds.quiet_behind(made, 300)
+        self.assertEqual(len(kinds.text_of(fewer)), len(kinds.text_of(made)))
+        self.assertEqual(len(played(fewer).entries), 300)
+        self.assertEqual(played(fewer).entries, played(made).entries[:300])
+
+
+class Memory(unittest.TestCase):
+    """A program that takes 12 MB for the input, and 1,000 bytes for each event, and more for each commit."""
+
+    def told(self, for_commit, for_event=1000):
+        def run(words, text):
+            self.assertEqual(words, ["program", "--fast", "play"])
+            made = json.loads(text)
+            site = played(made)
+            taken = for_event * len(site.entries) + for_commit * site.own()
+            report = f"site 0 up epoch 1 events {len(site.entries)} records {len(site.records)} got - {'x' * 10 * len(site.entries)}"
+            return measured.Measured(report, 0.1, 12 + taken / 1_000_000)
+
+        with mock.patch.object(growth, "measured_of", run):
+            return list(growth.memory_lines(["program", "--fast"], 3000))
+
+    def test_the_growth_beside_the_trail_is_told(self):
+        lines = self.told(900)
+        self.assertEqual(lines[0], "one site, 3,000 events over 100 objects, 989 commits, a Tick at each 100th event")
+        self.assertEqual(lines[1:3], ["the input alone: 12.0 MB", "the run: 15.9 MB, 1297 bytes for each event of its second half"])
+        self.assertEqual(lines[3], "with aborts in the place of commits: 15.0 MB, 1000 bytes for each, of which 10 are the report's")
+        self.assertEqual(lines[4:6], ["the records that these lack: 39 bytes for each",
+                                      "so the trail takes 1029 bytes for each, and the run 1.26 times that: within 1.5"])
+        self.assertEqual(lines[6], "in all the run takes 1.05 times what the one with aborts and the records take")
+        self.assertRegex(self.told(2000)[5], "1.61 times that: above 1.5$")
+
+    def test_what_is_too_little_is_told(self):
+        self.assertIn("isn't told", self.told(0, 10)[-1])
+
+
+if __name__ == "__main__":
+    unittest.main()
