@@ -47,15 +47,15 @@ def near(rng, limit):
 # What clients send
 
 
-def object_for(rng, operation, strict, regular=(1, 7)):
+def object_for(rng, operation, strict, regular=(1, 7), most=2):
     """Mostly of a container of the operation's kind, where `strict` wants it always."""
     fitting = regular if operation in (model.READ, model.WRITE) else (2,)
     containers = fitting if strict or rng.random() < 0.7 else (1, 2, 7, 3)
-    return struct.pack(">IQ", rng.choice(containers), rng.randint(1, 2))
+    return struct.pack(">IQ", rng.choice(containers), rng.randint(1, most))
 
 
-def request(rng, operation, strict, regular=(1, 7)):
-    body = bytes([operation]) + object_for(rng, operation, strict, regular)
+def request(rng, operation, strict, regular=(1, 7), most=2):
+    body = bytes([operation]) + object_for(rng, operation, strict, regular, most)
     if operation == model.WRITE:
         return body + frame(rng.randbytes(rng.randint(0, 4)))
     if operation in (model.SET_ADD, model.SET_DEL, model.SET_READ_ID):
@@ -419,7 +419,7 @@ def several(rng, kind, areas=True):
 # The kinds, as those of `SEVERAL`. Transactions of the first clients stay open while others commit.
 FOLDED = {
     "folded alone": Kind((1,), (80, 0, 0, 12, 1.2, 2, 0.2, 0), 0, 0, 0.05, False, 0.3),
-    "folded": Kind((2, 2, 3), (60, 60, 9, 12, 0.8, 2, 0.2, 0), 0.25, 0.15, 0.05, False, 0.3),
+    "folded": Kind((2, 2, 3), (60, 60, 6, 12, 0.8, 2, 0.2, 0), 0.25, 0.15, 0.05, False, 0.3),
     "folded and pumped": Kind((2, 2, 3), (60, 6, 1, 7, 0.5, 0.3, 0.2, 55), 0.1, 0.2, 0.05, False, 0.3),
 }
 CHANGES_AND_READS = [model.WRITE, model.SET_ADD, model.SET_DEL, model.READ, model.SET_READ, model.SET_READ_ID]
@@ -427,62 +427,104 @@ CHANGES_AND_READS = [model.WRITE, model.SET_ADD, model.SET_DEL, model.READ, mode
 
 class FoldedMaker(Maker):
     """A scenario in which the first clients have transactions open for long, and the others commit to the same few objects,
-    mostly at once; between their commits sites tick."""
+    mostly at once; between their commits sites tick. In some all that stay open are of one site and the others of other sites, so
+    that these fold what slow commits bring an old snapshot of."""
 
     def containers(self):
         """Of the regular objects each site prefers some, as far as there are containers."""
-        made = super().containers()
-        return [[number, kind, place % self.sites] for place, (number, kind, _) in enumerate(made)]
+        self.homes = {number: place % self.sites for place, number in enumerate(self.regular())}
+        return [[number, kind, self.homes.get(number, site)] for number, kind, site in super().containers()]
 
     def clients(self):
-        self.slow = self.rng.randint(1, 3)
+        # How many stay open, how often these have a turn, and how many objects a container has.
+        self.slow, self.haste, self.most = self.rng.choice([1, 1, 2, 3]), self.rng.choice([0.1, 0.3]), self.rng.choice([1, 1, 2])
         sites = [self.rng.randrange(self.sites) for _ in range(self.slow + self.rng.randint(1, 4))]
-        # Where all that stay open are of one site, the others fold what these haven't seen.
-        if self.rng.random() < 0.5:
-            sites[: self.slow] = [sites[0]] * self.slow
+        self.are_apart = self.sites > 1 and self.rng.random() < 0.4
+        if self.are_apart:
+            others = [site for site in range(self.sites) if site != sites[0]]
+            sites = [sites[0]] * self.slow + [self.rng.choice(others) for _ in sites[self.slow :]]
         return [[site, (self.of_slow if number < self.slow else self.of_quick)(site)] for number, site in enumerate(sites)]
 
-    def preferred(self, site):
-        """The containers of regular objects that a site prefers, or any where it prefers none."""
-        made = [number for number in self.regular() if sorted((2, *self.regular())).index(number) % self.sites == site]
-        return made or self.regular()
+    def preferred(self, *sites):
+        """The containers of regular objects that one of these sites prefers, or any where none does."""
+        return [number for number in self.regular() if self.homes[number] in sites] or self.regular()
 
     def requests(self, weights, count, regular):
-        return [request(self.rng, operation, True, regular)
+        return [request(self.rng, operation, True, regular, self.most)
                 for operation in self.rng.choices(CHANGES_AND_READS, weights, k=count)]
 
     def of_slow(self, site):
         """Transactions that read again and again, over updates of their own: some ask other sites, some have no updates."""
-        bodies = []
+        bodies, elsewhere = [], self.preferred(*(there for there in range(self.sites) if there != site))
         for _ in range(self.rng.randint(2, 6)):
             weights = self.rng.choice([(0, 0, 0, 2, 2, 2), (1, 2, 2, 4, 4, 4), (4, 1, 1, 4, 2, 2), (4, 1, 1, 4, 2, 2)])
-            regular = self.rng.choice([self.regular(), self.preferred(site)])
+            regular = elsewhere if self.are_apart else self.rng.choice([self.regular(), self.preferred(site)])
             bodies += [START, *self.requests(weights, self.rng.randint(2, 14), regular)]
-            bodies += [ABORT if self.rng.random() < 0.1 else COMMIT, *[COMMIT] * self.rng.choice([0, 0, 1, 2])]
+            bodies += [ABORT if self.rng.random() < 0.1 else COMMIT, *[COMMIT] * self.rng.choice([0, 1, 1, 2])]
         return frames(bodies).hex()
 
     def of_quick(self, site):
         """Transactions of a few updates, of which most are decided at once; and some that read what is committed."""
         bodies = []
         for _ in range(self.rng.randint(5, 40)):
-            weights = self.rng.choice([(4, 4, 3, 1, 1, 1), (4, 4, 3, 1, 1, 1), (0, 0, 0, 1, 1, 1)])
-            regular = self.preferred(site) if self.rng.random() < 0.9 else self.regular()
+            changes = (9, 2, 2, 1, 1, 1) if self.are_apart else (4, 4, 3, 1, 1, 1)
+            weights = self.rng.choice([changes, changes, (0, 0, 0, 1, 1, 1)])
+            regular = self.preferred(site) if weights[0] and self.rng.random() < 0.9 else self.regular()
             bodies += [START, *self.requests(weights, self.rng.randint(1, 4), regular), COMMIT]
             bodies += [level(site, 1, self.rng.randint(1, 9))] * self.rng.choice([0, 0, 0, 0, 1])
         return frames(bodies).hex()
 
-    def call(self):
-        """Mostly all calls of a transaction, as far as it is begun; and sometimes one of a transaction that stays open."""
-        clients = self.made["clients"]
-        if self.rng.random() < 0.35:
-            return ["call", self.rng.randrange(self.slow)]
-        client = self.rng.randrange(self.slow, len(clients))
-        open_here = self.run.sites[clients[client][0]].sessions
-        for _ in range(6):
+    def quick_at(self, *sites):
+        return [number for number, (site, _) in enumerate(self.made["clients"]) if number >= self.slow and site in sites]
+
+    def transaction(self, client, most=7):
+        """All calls of a client's transaction, as far as it is begun, but for the votes on it."""
+        sessions = self.run.sites[self.made["clients"][client][0]].sessions
+        for _ in range(self.rng.randint(most - 1, most) - 1):
             self.take(["call", client])
-            if client not in open_here:
+            if client not in sessions or sessions[client].slow:
                 break
         return ["call", client]
+
+    def call(self):
+        """Mostly a transaction, and sometimes a call of one that stays open, or its end."""
+        if self.rng.random() < self.haste:
+            client = self.rng.randrange(self.slow)
+            return self.late_prepare(client) if self.sites > 1 and self.rng.random() < 0.15 else ["call", client]
+        return self.transaction(self.rng.choice(self.quick_at(*range(self.sites))))
+
+    def late_prepare(self, client):
+        """One that stayed open ends; what it asks of another site comes there behind a tick, and mostly the answer comes back."""
+        site = self.run.sites[self.made["clients"][client][0]]
+        self.take(self.transaction(client, 16))
+        asked = [(there, number) for there in site.peers for number, (_, packet) in enumerate(site.put_out[there], 1)
+                 if packet[0] == model.PREPARE]
+        if not asked:
+            return ["tick", site.me]
+        there, number = asked[-1]
+        self.take(["tick", there])
+        self.take(["deliver", there, site.me, number])
+        answers = len(self.run.sites[there].put_out[site.me])
+        if answers and self.rng.random() < 0.8:
+            self.take(["deliver", site.me, there, answers])
+        return ["call", client]
+
+    def tick(self):
+        """Often where some of what is received isn't committed; and then those that stay open there have turns on both sides of
+        its commit, or another has a transaction before that."""
+        behind = [site for site in self.run.sites if site.got != site.committed]
+        if not behind or self.rng.random() < 0.4:
+            return super().tick()
+        site = self.rng.choice(behind)
+        self.take(["tick", site.me])
+        slow = [client for client in range(self.slow) if self.made["clients"][client][0] == site.me]
+        quick = self.quick_at(site.me)
+        if quick and self.rng.random() < 0.5:
+            return self.transaction(self.rng.choice(quick))
+        for made in [["call", client] for client in slow], [["advance", site.me, j] for j in site.enabled()]:
+            for one in made:
+                self.take(one)
+        return ["call", self.rng.choice(slow or quick or [0])]
 
     def deliver(self):
         return super().deliver() if self.sites > 1 else self.call()

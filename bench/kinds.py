@@ -63,7 +63,7 @@ def change_of(oid, number, ids):
     return on_set(SET_ADD if number % 5 < 3 else SET_DEL, oid, number // 5 * 7 % ids)
 
 
-def hot_set(every=None, commits=10_000):
+def hot_set(every=None, commits=16_000):
     """One set of eight ids is changed by one client again and again; behind each commit another reads it, or one id of it."""
     maker, oid = Maker(2, every), (SETS, 1)
     for number in range(commits):
@@ -86,7 +86,7 @@ def wide_set(every=None, rounds=12_000):
     return maker.made()
 
 
-def long_rows(every=None, commits=13_000):
+def long_rows(every=None, commits=20_000):
     """Four objects, two of each kind, are changed by turns. Behind the first hundredth of the commits one client starts, and
     reads them until the end; behind every other commit another reads one of them by a transaction of its own."""
     maker = Maker(3, every)

@@ -8,6 +8,7 @@ from collections import Counter
 from unittest import mock
 
 from played import TOP, file_text, random_scenario
+import folding
 import folds
 import generator
 import model
@@ -100,7 +101,7 @@ class Folds(unittest.TestCase):
     def test_old_transactions_read_what_was_committed_before_a_tick(self):
         """Told by the trails of one site alone: that a transaction which is answered a read was started before another committed
         the same object, and this before a tick."""
-        runs = [model.played(random_scenario(seed), Counter()) for seed in folded_seeds(200)]
+        runs = [model.played(random_scenario(seed), Counter()) for seed in folded_seeds(600)]
         self.assertGreater(sum(old_reads(run) for run in runs if len(run.sites) == 1), 50)
 
     def test_random_scenarios_come_to_all_of_it(self):
@@ -113,6 +114,17 @@ class Folds(unittest.TestCase):
         self.assertEqual([what for what in folds.FOLDS if met[what] < 5], [])
         self.assertEqual(set(kinds), set(generator.FOLDED))
         self.assertGreater(min(kinds.values()), 15)
+
+    def test_a_right_fold_answers_as_the_model(self):
+        for seed in [*folded_seeds(330), *range(60)]:
+            made = random_scenario(seed)
+            self.assertEqual(folding.answers(made, folding.Right), folding.answers(made, model.Site), seed)
+
+    def test_each_wrong_fold_is_told_by_a_scenario(self):
+        for wrong in folding.WRONG:
+            told = (seed for seed in folded_seeds(1000) if folding.answers(random_scenario(seed), wrong)
+                    != folding.answers(random_scenario(seed), model.Site))
+            self.assertIsNotNone(next(told, None), wrong.__name__)
 
     def test_the_other_seeds_make_what_they_made(self):
         """With no kind of folds each seed makes what its place in the other kinds has."""
