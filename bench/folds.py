@@ -39,10 +39,9 @@ class Site(model.Site):
         # The floor at the last tick, and what was committed there then.
         self.floor, self.ticked = [0] * self.count, [0] * self.count
 
-    def has_folded(self, row, vector=None):
-        """Whether the last tick may have folded some of a row; or some of it that this vector doesn't see."""
-        return any(model.sees(self.floor, site, number) and not (vector and model.sees(vector, site, number))
-                   for site, number, _ in row)
+    def has_folded(self, row):
+        """Whether the last tick may have folded some of a row."""
+        return any(model.sees(self.floor, site, number) for site, number, _ in row)
 
     def has_newer(self, row, start):
         """Whether a row had a version at the last tick that a snapshot doesn't see."""
@@ -87,10 +86,9 @@ class Site(model.Site):
 
     def hear_prepare(self, j, number, tid, start, objects):
         plan = super().hear_prepare(j, number, tid, start, objects)
-        # What a plan puts out may be asked for at any time before it is carried out.
-        (_, vote), = plan.sends() or [(j, (VOTE, number))]
-        if len(vote) > 2 and vote[2][0] == MODIFIED and model.sees(self.floor, *vote[2][2]):
-            self.met["PREPARE that conflicts with what is folded"] += 1
+        for _, (_, _, *answer) in plan.sends():
+            if answer and answer[0][0] == MODIFIED and model.sees(self.floor, *answer[0][2]):
+                self.met["PREPARE that conflicts with what is folded"] += 1
         return plan
 
     def restart(self):

@@ -437,13 +437,14 @@ class FoldedMaker(Maker):
 
     def clients(self):
         # How many stay open, how often these have a turn, and how many objects a container has.
-        self.slow, self.haste, self.most = self.rng.choice([1, 1, 2, 3]), self.rng.choice([0.1, 0.3]), self.rng.choice([1, 1, 2])
-        sites = [self.rng.randrange(self.sites) for _ in range(self.slow + self.rng.randint(1, 4))]
+        self.staying, self.haste = self.rng.choice([1, 1, 2, 3]), self.rng.choice([0.1, 0.3])
+        self.most = self.rng.choice([1, 1, 2])
+        sites = [self.rng.randrange(self.sites) for _ in range(self.staying + self.rng.randint(1, 4))]
         self.are_apart = self.sites > 1 and self.rng.random() < 0.4
         if self.are_apart:
             others = [site for site in range(self.sites) if site != sites[0]]
-            sites = [sites[0]] * self.slow + [self.rng.choice(others) for _ in sites[self.slow :]]
-        return [[site, (self.of_slow if number < self.slow else self.of_quick)(site)] for number, site in enumerate(sites)]
+            sites = [sites[0]] * self.staying + [self.rng.choice(others) for _ in sites[self.staying :]]
+        return [[site, (self.of_staying if number < self.staying else self.of_quick)(site)] for number, site in enumerate(sites)]
 
     def preferred(self, *sites):
         """The containers of regular objects that one of these sites prefers, or any where none does."""
@@ -453,7 +454,7 @@ class FoldedMaker(Maker):
         return [request(self.rng, operation, True, regular, self.most)
                 for operation in self.rng.choices(CHANGES_AND_READS, weights, k=count)]
 
-    def of_slow(self, site):
+    def of_staying(self, site):
         """Transactions that read again and again, over updates of their own: some ask other sites, some have no updates."""
         bodies, elsewhere = [], self.preferred(*(there for there in range(self.sites) if there != site))
         for _ in range(self.rng.randint(2, 6)):
@@ -475,21 +476,26 @@ class FoldedMaker(Maker):
         return frames(bodies).hex()
 
     def quick_at(self, *sites):
-        return [number for number, (site, _) in enumerate(self.made["clients"]) if number >= self.slow and site in sites]
+        return [number for number, (site, _) in enumerate(self.made["clients"]) if number >= self.staying and site in sites]
+
+    def take(self, made):
+        """Takes a step; or none, where what was to be done has been taken step by step."""
+        if made is not None:
+            super().take(made)
 
     def transaction(self, client, most=7):
-        """All calls of a client's transaction, as far as it is begun, but for the votes on it."""
+        """All calls of a client's transaction, as far as it is begun, but for the votes on it. Sometimes the next begins."""
         sessions = self.run.sites[self.made["clients"][client][0]].sessions
-        for _ in range(self.rng.randint(most - 1, most) - 1):
+        for _ in range(most):
             self.take(["call", client])
             if client not in sessions or sessions[client].slow:
                 break
-        return ["call", client]
+        return ["call", client] if self.rng.random() < 0.3 else None
 
     def call(self):
         """Mostly a transaction, and sometimes a call of one that stays open, or its end."""
         if self.rng.random() < self.haste:
-            client = self.rng.randrange(self.slow)
+            client = self.rng.randrange(self.staying)
             return self.late_prepare(client) if self.sites > 1 and self.rng.random() < 0.15 else ["call", client]
         return self.transaction(self.rng.choice(self.quick_at(*range(self.sites))))
 
@@ -510,27 +516,38 @@ class FoldedMaker(Maker):
         return ["call", client]
 
     def tick(self):
-        """Often where some of what is received isn't committed; and then those that stay open there have turns on both sides of
-        its commit, or another has a transaction before that."""
+        """Often where some of what is received isn't committed; and behind that something reads there, before its commit or on
+        both sides of it."""
         behind = [site for site in self.run.sites if site.got != site.committed]
         if not behind or self.rng.random() < 0.4:
             return super().tick()
         site = self.rng.choice(behind)
+        staying = [client for client in range(self.staying) if self.made["clients"][client][0] == site.me]
+        if staying and self.rng.random() < 0.6:
+            return self.tick_and_advance(site, staying)
         self.take(["tick", site.me])
-        slow = [client for client in range(self.slow) if self.made["clients"][client][0] == site.me]
         quick = self.quick_at(site.me)
-        if quick and self.rng.random() < 0.5:
-            return self.transaction(self.rng.choice(quick))
-        for made in [["call", client] for client in slow], [["advance", site.me, j] for j in site.enabled()]:
-            for one in made:
-                self.take(one)
-        return ["call", self.rng.choice(slow or quick or [0])]
+        return self.transaction(self.rng.choice(quick)) if quick else None
+
+    def tick_and_advance(self, site, staying):
+        """What is received at a site is committed behind a tick, and transactions that are older read on. Some of these begin at
+        the tick."""
+        if self.rng.random() < 0.5:
+            for client in staying:
+                self.take(self.transaction(client, 16))
+        self.take(["tick", site.me])
+        for client in staying:
+            self.take(["call", client])
+        for other in list(site.enabled()):
+            self.take(["advance", site.me, other])
+        for client in staying * self.rng.randint(1, 3):
+            self.take(["call", client])
 
     def deliver(self):
         return super().deliver() if self.sites > 1 else self.call()
 
     def scenario(self, count):
-        for client in range(self.slow):
+        for client in range(self.staying):
             if self.rng.random() < 0.7:
                 self.take(["call", client])
         return super().scenario(count)

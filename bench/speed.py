@@ -120,8 +120,8 @@ def limit_of(one, other):
 
 def kind_line(sides, name):
     one, other = sides
-    numbers = (f(side) for side in sides for f in (lambda side: f"{side.least():.3f}", lambda side: f"{side.median():.3f}",
-                                                   lambda side: f"{side.memory():.0f}"))
+    numbers = (number for side in sides
+               for number in (f"{side.least():.3f}", f"{side.median():.3f}", f"{side.memory():.0f}"))
     ratios = (ratio(one.least(), other.least()), ratio(one.median(), other.median()), ratio(one.memory(), other.memory()))
     return LINE.format(name, f"{events_of(one.runs[-1].written):,}", *numbers, *ratios, limit_of(one, other))
 
