@@ -343,7 +343,7 @@ def runs_of(command, end, events):
     return [measured_of([*command, "play"], kinds.text_of(kinds.quiet_behind(made, count))) for count in (1, events // 2, events)]
 
 
-def memory_lines(command, events=EVENTS):
+def memory_lines(command, events):
     """The lines that tell of the memory of a run beside its trail."""
     count = events - events // 2
 
@@ -360,8 +360,8 @@ def memory_lines(command, events=EVENTS):
            "event")
     yield f"the input alone: {none.megabytes:.1f} MB"
     yield f"the run: {committing[1].megabytes:.1f} MB, {grown:.0f} bytes for each event of its second half"
-    yield (f"with aborts in the place of commits: {aborting[1].megabytes:.1f} MB, {alike:.0f} bytes for each, of which {report:.0f} "
-           "are the report's")
+    yield (f"with aborts in the place of commits: {aborting[1].megabytes:.1f} MB, {alike:.0f} bytes for each, of which "
+           f"{report:.0f} are the report's")
     yield f"the records that these lack: {records:.0f} bytes for each"
     if trail <= 0 or aborting[0].megabytes < 1.02 * none.megabytes:
         yield "what the trail takes isn't told: half of these events take no more than the input did before them"
@@ -403,8 +403,10 @@ def main():
         return
     if words.model and not words.restarts or words.count < 2:
         parser.error("--model goes with --restarts, and a site restarts twice at least")
+    if words.memory and (words.loads or words.restarts):
+        parser.error("--memory goes without --loads and --restarts")
     if words.memory:
-        for line in memory_lines(shlex.split(words.program) if words.program else [built()]):
+        for line in memory_lines(shlex.split(words.program) if words.program else [built()], EVENTS):
             print(line, flush=True)
         return
     program = None if words.model else words.program or built()

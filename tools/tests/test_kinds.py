@@ -1,11 +1,13 @@
 """The scenarios of bench/kinds.py are what they are named for, and those by which memory is measured are alike."""
 
 import json
+import os
+import sys
 import unittest
 from collections import Counter
 from unittest import mock
 
-from played import InFolder, run_bench
+from played import InFolder, TOP, run_bench
 from generator import ABORT, COMMIT
 import growth
 import kinds
@@ -13,6 +15,8 @@ import measured
 import model
 import readings
 import spelled
+
+PLAYS = f'#!/bin/sh\nexec {sys.executable} {os.path.join(TOP, "bench", "model.py")}\n'
 
 
 def played(made):
@@ -89,7 +93,7 @@ class Kinds(unittest.TestCase):
         self.assertEqual(played(fewer).entries, played(made).entries[:300])
 
 
-class Memory(unittest.TestCase):
+class Memory(InFolder):
     """A program that takes 12 MB for the input, and 1,000 bytes for each event, and more for each commit."""
 
     def told(self, for_commit, for_event=1000):
@@ -98,8 +102,8 @@ class Memory(unittest.TestCase):
             made = json.loads(text)
             site = played(made)
             taken = for_event * len(site.entries) + for_commit * site.own()
-            report = f"site 0 up epoch 1 events {len(site.entries)} records {len(site.records)} got - {'x' * 10 * len(site.entries)}"
-            return measured.Measured(report, 0.1, 12 + taken / 1_000_000)
+            report = f"site 0 up epoch 1 events {len(site.entries)} records {len(site.records)} got "
+            return measured.Measured(report + "x" * 10 * len(site.entries), 0.1, 12 + taken / 1_000_000)
 
         with mock.patch.object(growth, "measured_of", run):
             return list(growth.memory_lines(["program", "--fast"], 3000))
@@ -107,8 +111,9 @@ class Memory(unittest.TestCase):
     def test_the_growth_beside_the_trail_is_told(self):
         lines = self.told(900)
         self.assertEqual(lines[0], "one site, 3,000 events over 100 objects, 989 commits, a Tick at each 100th event")
-        self.assertEqual(lines[1:3], ["the input alone: 12.0 MB", "the run: 15.9 MB, 1297 bytes for each event of its second half"])
-        self.assertEqual(lines[3], "with aborts in the place of commits: 15.0 MB, 1000 bytes for each, of which 10 are the report's")
+        self.assertEqual(lines[1:4], [
+            "the input alone: 12.0 MB", "the run: 15.9 MB, 1297 bytes for each event of its second half",
+            "with aborts in the place of commits: 15.0 MB, 1000 bytes for each, of which 10 are the report's"])
         self.assertEqual(lines[4:6], ["the records that these lack: 39 bytes for each",
                                       "so the trail takes 1029 bytes for each, and the run 1.26 times that: within 1.5"])
         self.assertEqual(lines[6], "in all the run takes 1.05 times what the one with aborts and the records take")
@@ -116,6 +121,15 @@ class Memory(unittest.TestCase):
 
     def test_what_is_too_little_is_told(self):
         self.assertIn("isn't told", self.told(0, 10)[-1])
+
+    def test_it_is_a_command(self):
+        program = self.write("program", PLAYS, is_program=True)
+        with mock.patch.object(growth, "EVENTS", 400):
+            status, told = run_bench(growth, "--memory", program)
+        self.assertEqual((status, told.splitlines()[0]),
+                         (None, "one site, 400 events over 100 objects, 131 commits, a Tick at each 100th event"))
+        with mock.patch("sys.stderr"):
+            self.assertEqual(run_bench(growth, "--memory", "--loads", program)[0], 2)
 
 
 if __name__ == "__main__":
