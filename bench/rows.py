@@ -67,14 +67,18 @@ def packet_told(packet):
 
 
 class Row:
-    """A run with the clients that call in it, one at each site that is named, and the steps with what comes of them."""
+    """A run with the clients that call in it, one at each site that is named, and the steps with what comes of them. `made`
+    is the scenario of what was done so far."""
 
     def __init__(self, sites, tolerated, containers, at=(), arms=()):
         scenario = {"sites": sites, "f": tolerated, "containers": containers, "clients": [[site, ""] for site in at],
                     "arms": list(arms)}
         self.run, self.wrong = model.Run(scenario, Counter()), []
+        self.made = {**scenario, "clients": [[site, ""] for site in at], "steps": []}
 
     def call(self, client, request, reply, record=None, sends=""):
+        self.made["clients"][client][1] += frame(request).hex()
+        self.made["steps"].append(["call", client])
         site = self.run.sites[self.run.clients[client][0]]
         site.call(client, request_of(request))
         self.check((client, request.hex()), site.entries[-1], "reply:" + frame(reply).hex(), record, sends)
@@ -88,6 +92,7 @@ class Row:
         self.calls(client, (START_IT, started(*tid)), *((write(oid, content), DONE_IT) for oid, content in writes))
 
     def step(self, word, site, *rest, to="taken", record=None, sends=""):
+        self.made["steps"].append([word, site, *rest])
         self.run.step(word, site, *rest)
         self.check((word, site, *rest), self.run.sites[site].entries[-1], to, record, sends)
 

@@ -75,8 +75,8 @@ def step_of(site, event):
 class Check:
     """A threaded run while its trace is read, line by line. `met` counts what the model and the link came to."""
 
-    def __init__(self, scenario, lines, met):
-        self.run, self.lines = model.Run(scenario, met, Site), lines
+    def __init__(self, scenario, lines, met, make=Site):
+        self.run, self.lines = model.Run(scenario, met, make), lines
         self.ticks = scenario.get("ticks", link.TICKS)
         # How many calls the bytes of each client are.
         self.calls = [len(list(model.calls_of(bytes.fromhex(sent), Counter()))) for _, sent in self.run.clients]
