@@ -1,0 +1,77 @@
+"""Which device calls bench/stops.py stops, and what it says of runs that differ, with the plain model as the program."""
+
+import json
+import subprocess
+import unittest
+from collections import Counter
+from unittest import mock
+
+from played import run_bench
+import model
+import readings
+import stops
+
+SLOW = "a slow commit"
+
+
+def ended(status, written, said=""):
+    return subprocess.CompletedProcess([], status, written, said)
+
+
+class Stops(unittest.TestCase):
+    def stop(self, play, *words):
+        """Stops the calls of the slow commit, where `play` is the program."""
+        one = {SLOW: stops.SCENARIOS[SLOW]}
+        with mock.patch.object(stops, "SCENARIOS", one), \
+             mock.patch.object(stops.subprocess, "run", lambda words, input, **_: play(json.loads(input))):
+            return run_bench(stops, "--program", "program", *words)
+
+    def test_the_slow_commit_has_36_runs(self):
+        played = []
+
+        def play(made):
+            played.append(tuple(made["arms"][0]))
+            return ended(0, model.play(made, Counter()))
+
+        status, told = self.stop(play)
+        self.assertEqual((status, told), (False, "a slow commit: 4 and 8 calls of its sites were stopped, in 36 runs\n12 device "
+                         "calls were stopped, each by the choices 0, 1, 7: the same\n"))
+        arms = [(site, nth, choice) for site, most in ((0, 4), (1, 8)) for nth in range(1, most + 1) for choice in (0, 1, 7)]
+        self.assertEqual(sorted(played), arms)
+
+    def test_runs_that_differ_are_told(self):
+        for change, wanted in [
+            (lambda text: ended(5, "", "walter: out of memory\n"), "status 5, walter: out of memory"),
+            (lambda text: ended(0, text.replace(" failed ", " taken ", 1)), "played: e "),
+        ]:
+            def play(made, change=change):
+                text = model.play(made, Counter())
+                return change(text) if made["arms"] == [[0, 3, 1]] else ended(0, text)
+
+            status, told = self.stop(play)
+            _, line, *_, last = told.splitlines()
+            self.assertEqual(status, True)
+            self.assertTrue(line.startswith(f"  a slow commit, call 3 of site 0, choice 1: {wanted}"), line)
+            self.assertTrue(last.endswith(": 1 runs differ"), last)
+
+    def test_the_model_alone(self):
+        status, told = self.stop(None, "--model")
+        self.assertEqual((status, told.splitlines()[-1]),
+                         (False, "12 device calls were stopped, each by the choices 0, 1, 7: played by the model"))
+
+    def test_scenarios_are_right_and_packs_are_stopped(self):
+        for name, make in stops.SCENARIOS.items():
+            made, met = make(), Counter()
+            readings.read(json.dumps(stops.armed(made, 0, 1, 7)).encode())
+            if "areas" not in made:
+                continue
+            for site in range(made["sites"]):
+                for _, _, run in stops.stopped(made, site, 1):
+                    met.update(what for what in run.met if run.met[what])
+                    self.assertTrue(all(one.up for one in run.sites))
+            for what in ("load fails", "pack fails before the switch byte", "pack fails at the switch byte", "pack into A"):
+                self.assertGreater(met[what], 0, what)
+
+
+if __name__ == "__main__":
+    unittest.main()
