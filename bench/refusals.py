@@ -11,7 +11,8 @@ itself, before `main` and for its streams, and what the loader takes, is neither
 
 A run is to end in one of these ways:
 
-- with status 5, one line on standard error, and nothing on standard output;
+- with status 5, one line on standard error, and nothing on standard output; over file disks also with status 6, and the line of a
+  disk that couldn't be taken;
 - with status 0 and a report in which no entry has met want of memory: that of the run without refusals, or where threads drive
   one that threaded.py accepts;
 - with status 0 and a report in which entries have met it, at events that may: it is what the model makes of the same events,
@@ -21,13 +22,16 @@ A run is to end in one of these ways:
 Where a restart wants memory no trace says whether it has read the disk before, which brings an arm nearer: both are allowed.
 
 Prints for each scenario how many allocations there were, how many runs met a refusal, and how many of these ended how; and a
-line for each run that ended otherwise, with where in the program the refused call stands. Ends with status 1 where there is one.
+line for each run that ended otherwise, with the functions that the refused call was made from. Ends with status 1 where there is
+one.
 """
 
 import argparse
+import bisect
 import itertools
 import json
 import os
+import re
 import struct
 import subprocess
 import sys
@@ -45,6 +49,8 @@ TOP = os.path.dirname(os.path.dirname(os.path.abspath(__file__)))
 LOAD = 7, 60
 LONGEST = 60
 NO_MEMORY, SAID = 5, "walter: out of memory\n"
+NO_DISK, UNTAKEN = 6, ("walter: {}/site-{}.journal could not be opened, read or written: see that this may be done, and that there is "
+                       "room\n")
 # What the trace says where an event met want of memory, of a call and of any other event.
 WANT_OF_CALL, WANT = "reply:" + frame(refusal(13)).hex(), "memory"
 # The calls that may meet it.
@@ -52,9 +58,10 @@ WANTING = (START, READ, WRITE, SET_ADD, SET_DEL, SET_READ, COMMIT)
 # Of so many restarts that wanted memory in one run it is tried for each whether it has read the disk.
 MOST_UNTOLD = 6
 
-# What is told of a run: how many allocations were counted, how many were refused, and where the first of these was called, by
-# its distance from where the program is loaded.
-TOLD = struct.Struct("=QQQ")
+# What is told of a run: how many allocations were counted, how many were refused, and where the first of these was called from,
+# and that, and so on, as far as the stack tells: by the distances from where the program is loaded. 0 is none.
+CALLERS = 8
+TOLD = struct.Struct(f"=QQ{CALLERS}Q")
 LIBRARY = r"""
 #define _GNU_SOURCE
 #include <errno.h>
@@ -64,6 +71,7 @@ LIBRARY = r"""
 #include <stdint.h>
 #include <stdlib.h>
 #include <sys/mman.h>
+#include <sys/uio.h>
 #include <unistd.h>
 
 void *__libc_malloc(size_t size);
@@ -71,7 +79,11 @@ void *__libc_calloc(size_t count, size_t size);
 void *__libc_realloc(void *old, size_t size);
 void *__libc_memalign(size_t alignment, size_t size);
 
-struct told { uint64_t counted, refused, at; };
+#define CALLERS 8
+#define PARTS 64
+#define WORDS 32
+
+struct told { uint64_t counted, refused, callers[CALLERS]; };
 static struct told unasked, *told = &unasked;
 static uint64_t nth, lasting;
 static uintptr_t base, first, end;
@@ -111,21 +123,43 @@ __attribute__((constructor)) static void begin(void)
     dl_iterate_phdr(find, 0);
 }
 
-static int refuses(void *caller)
+static int is_inside(uintptr_t at)
 {
-    uintptr_t at = (uintptr_t) caller;
-    if (at < first || at >= end)
+    return first <= at && at < end;
+}
+
+/* What stands on the stack and is the place behind a call. The program may lack what an unwinder wants, and some of these may be
+   left from calls that are over. The stack is read by the system, which knows where it ends. */
+static void note_callers(uintptr_t caller, void *frame)
+{
+    static uintptr_t words[PARTS * WORDS];
+    struct iovec mine[PARTS], its[PARTS];
+    for (int i = 0; i < PARTS; i++) {
+        mine[i] = (struct iovec) {words + i * WORDS, sizeof words / PARTS};
+        its[i] = (struct iovec) {(uintptr_t *) frame + i * WORDS, sizeof words / PARTS};
+    }
+    ssize_t got = process_vm_readv(getpid(), mine, PARTS, its, PARTS, 0);
+    int count = 0;
+    told->callers[count++] = caller - base;
+    for (ssize_t i = 0; i < got / (ssize_t) sizeof *words && count < CALLERS; i++)
+        if (is_inside(words[i]) && is_inside(words[i] - 5) && words[i] != caller && *(unsigned char *) (words[i] - 5) == 0xe8)
+            told->callers[count++] = words[i] - base;
+}
+
+static int refuses(void *caller, void *frame)
+{
+    if (!is_inside((uintptr_t) caller))
         return 0;
     uint64_t number = __atomic_add_fetch(&told->counted, 1, __ATOMIC_SEQ_CST);
     if (nth == 0 || number < nth || (number > nth && !lasting))
         return 0;
     if (__atomic_fetch_add(&told->refused, 1, __ATOMIC_SEQ_CST) == 0)
-        told->at = at - base;
+        note_callers((uintptr_t) caller, frame);
     errno = ENOMEM;
     return 1;
 }
 
-#define REFUSES refuses(__builtin_return_address(0))
+#define REFUSES refuses(__builtin_return_address(0), __builtin_frame_address(0))
 
 void *malloc(size_t size)
 {
@@ -163,7 +197,7 @@ int posix_memalign(void **place, size_t alignment, size_t size)
 }
 """
 
-Ended = namedtuple("Ended", "status written said counted refused at")
+Ended = namedtuple("Ended", "status written said counted refused callers")
 
 
 # The program, under the library
@@ -178,11 +212,21 @@ def library_in(folder):
     return made
 
 
+def functions_of(path):
+    """The functions of a program, each with its place, as `nm` tells them; none where there is no `nm`."""
+    try:
+        told = subprocess.run(["nm", "-n", path], capture_output=True, text=True).stdout
+    except OSError:
+        return []
+    found = re.findall(r"(?m)^([0-9a-f]+) [tT] (.*)$", told)
+    return [(int(place, 16), re.sub("::<#[0-9a-f]*>", "", name)) for place, name in found]
+
+
 class Program:
     """A program whose allocations may be refused."""
 
     def __init__(self, path, folder, library):
-        self.path, self.told = os.path.abspath(path), os.path.join(folder, "told")
+        self.path, self.told, self.functions = os.path.abspath(path), os.path.join(folder, "told"), None
         self.given = {**os.environ, "LD_PRELOAD": library, "REFUSALS_TOLD": self.told}
 
     def run(self, words, text, nth=0, lasting=False):
@@ -197,8 +241,18 @@ class Program:
         return Ended(ended.returncode, ended.stdout, ended.stderr, *self.counts())
 
     def counts(self):
+        """How many allocations were counted and refused, and where the first of these was called from."""
         with open(self.told, "rb") as file:
-            return TOLD.unpack(file.read())
+            counted, refused, *callers = TOLD.unpack(file.read())
+        return counted, refused, [caller for caller in callers if caller]
+
+    def names(self, callers):
+        """The functions of the program that have these places, the inmost first; the places themselves where none are told."""
+        if self.functions is None:
+            self.functions = functions_of(self.path)
+        places = [place for place, _ in self.functions]
+        found = [bisect.bisect(places, caller) for caller in callers]
+        return " < ".join(self.functions[at - 1][1] if at else hex(caller) for at, caller in zip(found, callers))
 
 
 # The model, where memory is wanting
@@ -329,12 +383,21 @@ class Played:
     def is_whole(self, report):
         return report == self.whole
 
+    def early_end(self, ended):
+        """How a run that wrote nothing may end."""
+        return "status 5" if (ended.status, ended.said) == (NO_MEMORY, SAID) else None
+
 
 class OverFiles(Played):
-    """The same over file disks, in a new folder each time."""
+    """The same over file disks, in a new folder each time. A disk that is refused the memory for its file's name can't be taken."""
 
     def given(self, folder):
-        return [*self.words, "--disks", tempfile.mkdtemp(dir=folder)]
+        self.folder = tempfile.mkdtemp(dir=folder)
+        return [*self.words, "--disks", self.folder]
+
+    def early_end(self, ended):
+        return super().early_end(ended) or (ended.status == NO_DISK and any(
+            ended.said == UNTAKEN.format(self.folder, site) for site in range(self.scenario["sites"])) and "status 6")
 
 
 class Driven(Played):
@@ -414,10 +477,14 @@ def scenarios(lasting):
 # The runs
 
 
+ENDS = "status 5", "status 6", "told by entries", "as without refusals", "wrong"
+
+
 def end_of(one, ended):
     """How a run ended: in a word, or what is wrong with it."""
-    if ended.status == NO_MEMORY and ended.said == SAID and not ended.written:
-        return "status 5", None
+    early = None if ended.written else one.early_end(ended)
+    if early:
+        return early, None
     if ended.status != 0 or ended.said:
         return "wrong", f"status {ended.status}, said {ended.said[:200]!r}, wrote {ended.written[:100]!r}"
     wrong = one.wrong(ended.written)
@@ -440,7 +507,7 @@ def refuse(program, one, folder, each, lasting):
         how, wrong = end_of(one, ended)
         met[how] += 1
         if wrong:
-            lines.append(f"allocation {nth}, called before {ended.at:#x}: {wrong}")
+            lines.append(f"allocation {nth}: {wrong}\n    refused in {program.names(ended.callers)}")
 
 
 def tried(program, folder, names, each, lasting):
@@ -450,7 +517,7 @@ def tried(program, folder, names, each, lasting):
         if names and name not in names:
             continue
         counted, met, lines = refuse(program, one, folder, each, lasting)
-        ends = ", ".join(f"{met[how]:,} {how}" for how in ("status 5", "told by entries", "as without refusals", "wrong"))
+        ends = ", ".join(f"{met[how]:,} {how}" for how in ENDS if met[how] or how != "status 6")
         print(f"{name}: {counted:,} allocations; of {sum(met.values()):,} runs with a refusal {ends}", flush=True)
         print("".join(f"  {line}\n" for line in lines), end="", flush=True)
         count += len(lines)

@@ -25,7 +25,10 @@ class Program:
         wants = [{nth: "-"}, *({} for _ in range(made["sites"] - 1))]
         written = refusals.played(made, wants, iter([True])).text()
         come = (refusals.NO_MEMORY, "", refusals.SAID) if nth == 1 else self.change(nth, (0, written, ""))
-        return refusals.Ended(*come, self.most, int(0 < nth <= self.most), 16 * nth)
+        return refusals.Ended(*come, self.most, int(0 < nth <= self.most), [16 * nth])
+
+    def names(self, callers):
+        return f"the function at {callers[0]}"
 
 
 def right(_, come):
@@ -68,10 +71,21 @@ class Runs(unittest.TestCase):
         ]:
             status, told = self.refuse(lambda nth, come, change=change: change(come) if nth == 3 else come, "a set cancels out",
                                        "--each", "2")
-            first, second = told.splitlines()
+            first, second, *_, last = told.splitlines()
             self.assertEqual(status, True)
             self.assertTrue(first.endswith("1 wrong"), first)
-            self.assertTrue(second.startswith("  allocation 3, called before 0x30: " + wanted), second)
+            self.assertTrue(second.startswith("  allocation 3: " + wanted), second)
+            self.assertEqual(last, "    refused in the function at 48")
+
+    def test_a_disk_that_is_not_taken_is_an_end_over_files_alone(self):
+        over_files = refusals.scenarios(False)["a slow commit over files"]
+        with tempfile.TemporaryDirectory() as folder:
+            self.assertEqual(over_files.given(folder)[-2:], ["--disks", over_files.folder])
+        untaken = refusals.Ended(6, "", refusals.UNTAKEN.format(over_files.folder, 1), 8, 1, [])
+        self.assertEqual(refusals.end_of(over_files, untaken), ("status 6", None))
+        for one, ended in [(over_files, untaken._replace(said=refusals.UNTAKEN.format(over_files.folder, 2))),
+                           (refusals.scenarios(False)["a slow commit"], untaken)]:
+            self.assertEqual(refusals.end_of(one, ended)[0], "wrong")
 
     def test_a_program_that_never_plays_is_told(self):
         status, told = self.refuse(lambda nth, come: (1, "", "no"), "a slow commit")
@@ -135,7 +149,7 @@ class Library(unittest.TestCase):
                 wanted = "".join("0" if at == nth else "1" for at in range(1, 6)) + "\n"
                 ended = program.run([], "", nth)
                 self.assertEqual(ended[:5], (0, wanted, "", 5, 1))
-                self.assertGreater(ended.at, 0)
+                self.assertRegex(program.names(ended.callers), "^(main|0x)")
             self.assertEqual(program.run([], "", 3, True)[:5], (0, "11000\n", "", 5, 3))
 
 
