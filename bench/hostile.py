@@ -498,6 +498,7 @@ IN_SITES, BEHIND_SITES = whole(sites="@")
 IN_KEYS = b"{"
 BEHIND_KEYS = b"".join(whole())[1:]
 CONTAINERS = [[number, "regular", 0] for number in range(256)]
+EMPTY_CLIENTS = plain(sites=8, clients=[[number % 8, ""] for number in range(8192)])
 SHAPES = {
     "open brackets": again(b"", b"[", b"", no_json(129)),
     "open braces": again(b"", b'{"a":', b"", no_json(637)),
@@ -545,6 +546,7 @@ SHAPES = {
     "clients of nothing": in_list("clients", b'[0,""]', b'[0,""]', lambda count: readings.TEXTS["clients"].format(1024)
                                   if count >= 1024 else plain(clients=[[0, ""]] * (count + 1))),
     "8,192 clients": partial(at_all_sites, 8192),
+    "8,192 clients of nothing": lambda size: (json.dumps(EMPTY_CLIENTS).encode().ljust(size), EMPTY_CLIENTS),
     "8,193 clients": lambda size: (at_all_sites(8193, size)[0], readings.TEXTS["clients"].format(8192)),
     "huge hex": huge_hex(b"", None),
     "huge hex with a digit more": huge_hex(b"0", readings.TEXTS["clients"].format(0)),
