@@ -4,7 +4,6 @@
 mod folding;
 mod history;
 mod line;
-mod lines;
 mod rows;
 mod steps;
 
