@@ -103,7 +103,4 @@ class Site(model.Site):
 
 def played(scenario, met):
     """The run of the scenario by the model. Counts in `met` the limits that it came to, and what folds met."""
-    run = model.Run(scenario, met, Site)
-    for step in scenario["steps"]:
-        run.step(*step)
-    return run
+    return model.played(scenario, met, Site)

@@ -354,9 +354,7 @@ def try_journals(program, bases, seed, met):
     met["accepted" if first is None else re.sub("[0-9]+", "N", causes[first][0])] += 1
     met["accepted, of two areas"] += first is None and contents[0][:8] == journals.HEADER_OF_TWO
     if first is None:
-        run = model.Run(made, Counter(), lambda scenario, me, met: Found(contents[me], scenario, me, met))
-        for step in made["steps"]:
-            run.step(*step)
+        run = model.played(made, Counter(), lambda scenario, me, met: Found(contents[me], scenario, me, met))
         wanted, left = Come(0, "", run.text()), [bytes(site.disk.safe) for site in run.sites]
     else:
         # What stands at the sites before it, which may have begun, isn't told.

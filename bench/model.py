@@ -730,9 +730,9 @@ class Run:
         return report(self.sites, self.clients, self.replies, trace)
 
 
-def played(scenario, met):
-    """The run of the scenario. Counts in `met` the limits that it came to."""
-    run = Run(scenario, met)
+def played(scenario, met, make=Site):
+    """The run of the scenario, with sites of this kind. Counts in `met` the limits that it came to."""
+    run = Run(scenario, met, make)
     for step in scenario["steps"]:
         run.step(*step)
     return run

@@ -43,9 +43,9 @@ import model
 import rows
 import threaded
 from compare import built, first_difference
+from rows import example
 from spelled import *
 
-TOP = os.path.dirname(os.path.dirname(os.path.abspath(__file__)))
 LOAD = 7, 60
 LONGEST = 60
 NO_MEMORY, SAID = 5, "walter: out of memory\n"
@@ -79,7 +79,6 @@ void *__libc_calloc(size_t count, size_t size);
 void *__libc_realloc(void *old, size_t size);
 void *__libc_memalign(size_t alignment, size_t size);
 
-#define CALLERS 8
 #define PARTS 64
 #define WORDS 32
 
@@ -208,7 +207,7 @@ def library_in(folder):
     source, made = os.path.join(folder, "refusals.c"), os.path.join(folder, "refusals.so")
     with open(source, "w", encoding="utf-8") as file:
         file.write(LIBRARY)
-    subprocess.run(["gcc", "-O2", "-fPIC", "-shared", "-fno-builtin", "-o", made, source], check=True)
+    subprocess.run(["gcc", "-O2", "-fPIC", "-shared", "-fno-builtin", f"-DCALLERS={CALLERS}", "-o", made, source], check=True)
     return made
 
 
@@ -335,19 +334,22 @@ def readings_of(wants):
     return ([*way, *itertools.repeat(way[-1], untold - MOST_UNTOLD)] if untold > MOST_UNTOLD else way for way in ways)
 
 
-def tell(sites, wants, reads):
+def wanting_there(kind, wants, reads):
+    """Makes sites of this kind: at the first ones memory is wanting there, and at others it isn't."""
     left = iter(reads)
-    for site, wanted in zip(sites, wants):
-        site.wanted, site.reads = wanted, left
+
+    def make(scenario, me, met):
+        site = kind(scenario, me, met)
+        if me < len(wants):
+            site.wanted, site.reads = wants[me], left
+        return site
+
+    return make
 
 
 def played(scenario, wants, reads=()):
     """The run of a scenario at which memory is wanting there."""
-    run = model.Run(scenario, Counter(), Site)
-    tell(run.sites, wants, reads)
-    for step in scenario["steps"]:
-        run.step(*step)
-    return run
+    return model.played(scenario, Counter(), wanting_there(Site, wants, reads))
 
 
 # What is run, and what is wrong with what came of it
@@ -415,8 +417,8 @@ class Driven(Played):
         return differs
 
     def check(self, report, reads):
-        check = threaded.Check(self.scenario, report.split("\n"), Counter(), ThreadedSite)
-        tell(check.run.sites, wants_of(report, self.scenario["sites"]), reads)
+        make = wanting_there(ThreadedSite, wants_of(report, self.scenario["sites"]), reads)
+        check = threaded.Check(self.scenario, report.split("\n"), Counter(), make)
         check.trace()
         check.text()
         check.whole()
@@ -451,11 +453,6 @@ class Load(Played):
             return None
         self.allowed = self.allowed or set(self.one_each())
         return None if report in self.allowed else f"no single event that wants memory makes {report!r}"
-
-
-def example(name, **more):
-    with open(os.path.join(TOP, "examples", f"{name}.json"), encoding="utf-8") as file:
-        return {**json.load(file), **more}
 
 
 def scenarios(lasting):

@@ -401,7 +401,14 @@ ROWS = {
 }
 
 
-TESTED = os.path.join(os.path.dirname(os.path.abspath(__file__)), "..", "crates", "walter_tests_sites")
+TOP = os.path.join(os.path.dirname(os.path.abspath(__file__)), "..")
+TESTED = os.path.join(TOP, "crates", "walter_tests_sites")
+
+
+def example(name, **more):
+    """The scenario of this name in examples/, with other keys, or other values of these."""
+    with open(os.path.join(TOP, "examples", f"{name}.json"), encoding="utf-8") as file:
+        return {**json.load(file), **more}
 
 
 def content_of(name):

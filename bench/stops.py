@@ -16,7 +16,6 @@ its scenario, its site, its call and its choice. Ends with status 1 where there 
 
 import argparse
 import json
-import os
 import subprocess
 import sys
 from collections import Counter
@@ -24,8 +23,8 @@ from collections import Counter
 import loads
 import model
 from compare import built, first_difference
+from rows import example
 
-TOP = os.path.dirname(os.path.dirname(os.path.abspath(__file__)))
 CHOICES = 0, 1, 7
 LOAD = 7, 40
 # Two areas of this take all records of the slow commit several times.
@@ -34,9 +33,8 @@ CAPACITY_OF_TWO = 4096
 
 def slow_commit(behind, **more):
     """The slow commit of examples/, with steps behind it."""
-    with open(os.path.join(TOP, "examples", "slow_commit.json"), encoding="utf-8") as file:
-        made = json.load(file)
-    return {**made, **more, "steps": [*made["steps"], *behind]}
+    made = example("slow_commit", **more)
+    return {**made, "steps": [*made["steps"], *behind]}
 
 
 # Each site comes up behind a stop, and behind a second one; where the one restart fails, the next one doesn't.

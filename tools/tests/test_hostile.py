@@ -99,9 +99,7 @@ class Inputs(unittest.TestCase):
         """Over a journal without records a site comes to the same, in the layout that it has; what stands behind stays."""
         made = {**hostile.played_over(1), "capacity": 700}
         for content in journals.empty(1, 700), journals.empty(2, 700), journals.empty(1, 700) + bytes(500) + b"behind":
-            run = model.Run(made, Counter(), lambda scenario, me, met, content=content: hostile.Found(content, scenario, me, met))
-            for step in made["steps"]:
-                run.step(*step)
+            run = model.played(made, Counter(), lambda scenario, me, met, content=content: hostile.Found(content, scenario, me, met))
             areas = 1 if content[:8] == journals.HEADER else 2
             self.assertEqual(run.text(), model.play({**made, "areas": areas}, Counter()))
             self.assertTrue(bytes(run.sites[0].disk.safe).endswith(content[520:]))
