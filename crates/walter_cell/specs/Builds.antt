@@ -34,7 +34,8 @@ module _ {D : Type 0} (g : Ghosts D) where
       (result : Result N (D × BeginFault)) : Type 0 where
     pub begins : (bytes : List ℕ) → HasOnly g bytes disk → IsBegun shape bytes (begun_by result)
     pub leaves : (bytes : List ℕ) → HasOnly g bytes disk
-        → OfBuilt disk_of result (λ now. (image : List ℕ) → g.may_leave now image → MayHaveBegun shape areas bytes image)
+        → OfBuilt disk_of result
+        (λ now. (image : List ℕ) → g.may_leave now image → MayHaveBegun shape areas bytes image)
     pub faults : OfBuilt disk_of result (λ now.
         IsFaultOfBegin (begun_by result) (g.known disk).faults (g.known now).faults)
     pub arms : OfBuilt disk_of result (λ now. (g.known now).arms ≡ (g.known disk).arms)

@@ -96,7 +96,8 @@ module _ {D : Type 0} (g : Ghosts D) where
   -- the records of a site that stands as the trail says are all that a crash may leave of the disk
   abbrev pub LeavesRecords : Catalog → Layout → SiteId → List Entry → D → Type 0
   LeavesRecords catalog layout i trail disk = (image : List ℕ) → g.may_leave disk image
-      → MayHaveRecords layout (standing catalog i (reverse trail)).records (standing catalog i (reverse trail)).flight image
+      → MayHaveRecords layout (standing catalog i (reverse trail)).records
+      (standing catalog i (reverse trail)).flight image
 
   -- Its trail begins with the opening and has rising stamps, its lanes have put what the trail puts out, and its disk
   -- failed at least as often as the trail says. Where the disk tells what it holds the trail is right, and a crash leaves
@@ -109,7 +110,8 @@ module _ {D : Type 0} (g : Ghosts D) where
     pub put : HavePut node.catalog.sites node.trail node.outs
     pub faults : IfSome node.disk (λ disk. count_by (λ e. is_faulty e.came.outcome) node.trail ≤ (g.known disk).faults)
     pub right : is_told node.disk ≡ true → IsRightTrail node.catalog node.layout node.site node.trail
-    pub leaves : is_told node.disk ≡ true → IfSome node.disk (LeavesRecords node.catalog node.layout node.site node.trail)
+    pub leaves : is_told node.disk ≡ true
+        → IfSome node.disk (LeavesRecords node.catalog node.layout node.site node.trail)
 
   -- what each call keeps: which site it is, among which and over which kind of disk; and its lanes
   pub record KeepsNode (old new : NodeValue D) : Type 0 where

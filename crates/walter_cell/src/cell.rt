@@ -49,7 +49,8 @@ impl<D: Disk, S: Source + Drop, K: Sink + Drop> Model for Cell<D, S, K> {
 
     ghost Value = { CellValue D };
 
-    ghost coded = { Prim.hlevel (codes, coded_catalog.the_row.coded, coded_entry.the_row.coded, sending_code, receiving_code) };
+    ghost coded = { Prim.hlevel
+        (codes, coded_catalog.the_row.coded, coded_entry.the_row.coded, sending_code, receiving_code) };
 
     ghost view = { λ c. record { node = c.node; ins = c.ins.items; lines = c.lines.items } };
 
@@ -85,7 +86,8 @@ impl<D: Disk + Drop, S: Source + Drop, K: Sink + Drop> Cell<D, S, K> {
         requires empty { (k : ℕ) → k < catalog.now.sites → put_to outs.items k ≡ [] }
         ensures opens { IfOk result
             (HasBegun D.Disk catalog.now capacity areas site disk outs.items ins.items lines.items) }
-        ensures begins { Begins D.Disk (λ cell. cell.node.disk) (shape_by capacity catalog.now.sites) areas disk result }
+        ensures begins { Begins D.Disk (λ cell. cell.node.disk) (shape_by capacity catalog.now.sites) areas
+            disk result }
     {
         let node = Node::begin(alloc, disk, catalog, site, capacity, areas, outs)?;
         Ok(Cell { node, ins, lines })

@@ -51,7 +51,8 @@ pub record IsSureReport (words : List (String Global)) (rack : Racked) (before a
   pub disks : rack.all run.scenario.catalog.sites (λ i. IsDiskOfWhole rack run.scenario trails arms i)
   pub bytes_written : Written (written_by run.command run.scenario trails)
 
-pub record Assures (words : List (String Global)) (rack : Racked) (before after : Outside) (ended : Ended) : Type 0 where
+pub record Assures (words : List (String Global)) (rack : Racked) (before after : Outside) (ended : Ended)
+    : Type 0 where
   pub status : ended.status ≡ status_of ended.fault
   -- 0: what a whole run is to write was written, or a text where no run is asked for
   pub written : ended.status ≡ 0

@@ -85,11 +85,13 @@ fault_of site unbegun.Used = Journal site Used 8
 fault_of site unbegun.NoMemory = Memory
 
 -- the sites were built over the disks that were taken from the rack
-pub record IsBuilt {D : Type 0} (g : Ghosts D) (before after : RackAt D) (t : Scenario) (bench : BenchValue D) : Type 0 where
+pub record IsBuilt {D : Type 0} (g : Ghosts D) (before after : RackAt D) (t : Scenario) (bench : BenchValue D)
+    : Type 0 where
   pub disks : List D
   pub many : length disks ≡ t.catalog.sites
   pub taken : AreTaken g before after disks
-  pub no_records : (i : ℕ) (disk : D) → slice_get disks i ≡ Some disk → IfSome (g.known disk).reads (HasNoRecord (shape_of t))
+  pub no_records : (i : ℕ) (disk : D) → slice_get disks i ≡ Some disk
+      → IfSome (g.known disk).reads (HasNoRecord (shape_of t))
   pub laid : (i : ℕ) (disk : D) (c : CellValue D) → slice_get disks i ≡ Some disk → slice_get bench.cells i ≡ Some c
       → IfSome (g.known disk).reads (λ bytes. IsLaidFor t bytes c.node.layout)
   pub of : IsOf t bench

@@ -221,7 +221,8 @@ FailsEarly rack trails = (trails ≡ []) × ((i : ℕ) × rack.one i HasFailed)
 
 -- ---- the promise
 
-pub record Promise (words : List (String Global)) (rack : Racked) (before after : Outside) (ended : Ended) : Type 0 where
+pub record Promise (words : List (String Global)) (rack : Racked) (before after : Outside) (ended : Ended)
+    : Type 0 where
   -- the status is the fault's, 0 where there is none
   pub status : ended.status ≡ status_of ended.fault
   -- 0: what a whole run is to write was written, or a text where no run is asked for
@@ -256,8 +257,8 @@ pub record Promise (words : List (String Global)) (rack : Racked) (before after 
       × rack.each (IsFaultlessBefore site))
   -- and exactly then, where all disks are told and were taken, the source doesn't fail, and no disk does before all sites
   -- are up
-  pub unfit_named : (command : Command) (s : Scenario) (site : ℕ) (cause : JournalCause) (place : ℕ) → Asks command words
-      → Poses command before.left s → site < s.catalog.sites → AreAllTold rack s.catalog.sites
+  pub unfit_named : (command : Command) (s : Scenario) (site : ℕ) (cause : JournalCause) (place : ℕ)
+      → Asks command words → Poses command before.left s → site < s.catalog.sites → AreAllTold rack s.catalog.sites
       → IsFirstUnfit rack s site cause place → after.source_faults ≡ before.source_faults → rack.took s.catalog.sites
       → (ended.fault ≡ Some (fault.Journal site cause place)) ⊎ (ended.status ≡ 5) ⊎ FailsEarly rack ended.trails.items
   -- whatever the status, each disk that was taken was handed back, and given back but for one at most for each fault of

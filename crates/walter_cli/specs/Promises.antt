@@ -18,7 +18,8 @@ use Rattle.walter_rules.specs.Trails.{standing}
 -- that a peer sends, and that is the next of that peer, is received; one that can be committed here is; and a slow
 -- commit of a peer that meets no conflict gets its locks, and is told YES; one that meets a conflict is told NO over a
 -- version outside its snapshot, or over a lock whose owner is known to be outside, and over another lock to ask again
-pub record KeepsPromises (catalog : Catalog) (layout : Layout) (i : SiteId) (older : List Entry) (e : Entry) : Type 0 where
+pub record KeepsPromises (catalog : Catalog) (layout : Layout) (i : SiteId) (older : List Entry) (e : Entry)
+    : Type 0 where
   pub committed : (s : Session) → IsFree catalog i (standing catalog i older) e.event s
       → IsAnswered layout i (standing catalog i older) s e.came.outcome
   pub received : (j : SiteId) (seq : ℕ) (tx : Tx) → IsNext catalog i (standing catalog i older) e.event j seq tx

@@ -42,7 +42,8 @@ fn without_steps(alloc: Global, scenario: Scenario) -> Scenario
 // The scenario that the bytes of the source spell, read to their end.
 fn take_scenario<S: Source>(alloc: Global, source: &mut S) -> Result<Scenario, Fault>
     ensures ok { IfOk result (IsTaken (S.left source.old) (S.left source.new)) }
-    ensures fault { IfErr result (IsTakeFault (S.left source.old) (S.left source.new) (S.faults source.old) (S.faults source.new)) }
+    ensures fault { IfErr result
+        (IsTakeFault (S.left source.old) (S.left source.new) (S.faults source.old) (S.faults source.new)) }
 {
     let bytes = match read_to_end(alloc, source, LONGEST_TEXT) {
         Ok(bytes) => bytes,

@@ -46,7 +46,8 @@ impl<D: Disk, S: Source + Drop, K: Sink + Drop> Model for Bench<D, S, K> {
 
     ghost Value = { BenchValue D };
 
-    ghost coded = { Prim.hlevel (codes, coded_catalog.the_row.coded, coded_entry.the_row.coded, sending_code, receiving_code) };
+    ghost coded = { Prim.hlevel
+        (codes, coded_catalog.the_row.coded, coded_entry.the_row.coded, sending_code, receiving_code) };
 
     ghost view = { λ b. record { cells = b.cells.items; homes = b.homes.items } };
 
@@ -175,8 +176,8 @@ impl<D: Disk + Drop, S: Source + Drop, K: Sink + Drop> Bench<D, S, K> {
         requires pump { IsPumpAt self.old.cells site pump.old }
         ensures keeps { Keeps D.Disk self.old self.new }
         ensures pumps { (c : CellValue D) → slice_get self.old.cells site.0 ≡ Some c
-            → IfOk result (PumpsAt (is_told D.Disk c.node.disk ≡ true) c.node.catalog site (moment_of D.Disk self.old.cells)
-            (moment_of D.Disk self.new.cells) pump.old pump.new) }
+            → IfOk result (PumpsAt (is_told D.Disk c.node.disk ≡ true) c.node.catalog site
+            (moment_of D.Disk self.old.cells) (moment_of D.Disk self.new.cells) pump.old pump.new) }
         ensures pump { IsPumpAt self.new.cells site pump.new }
         ensures drops { Drops D.Disk site self.old self.new }
         ensures kept { OnErr result (trails_of self.new.cells ≡ trails_of self.old.cells) }

@@ -30,7 +30,8 @@ impl<N: Name, D: Disk, S: Source + Drop, K: Sink + Drop, const I: usize> Model
 
     ghost Value = { HeldValue D };
 
-    ghost coded = { Prim.hlevel (codes, coded_catalog.the_row.coded, coded_entry.the_row.coded, sending_code, receiving_code) };
+    ghost coded = { Prim.hlevel
+        (codes, coded_catalog.the_row.coded, coded_entry.the_row.coded, sending_code, receiving_code) };
 
     ghost view = { λ h. record { cell = h.cell; pump = h.pump } };
 

@@ -70,8 +70,11 @@ fn raise(tally: &mut BTreeMap<u64, i64>, id: u64, by: i64) -> Mem<()>
     ensures { OnOk result ((other : ℕ) → number_at tally.new other
         ≡ number_at tally.old other +ℤ (if nat_eq id other then by else pos 0)) }
 {
-    let number = tally.get(&id).copied().unwrap_or(0);
-    tally.insert(id, number + by)?;
+    if tally.contains_key(&id) {
+        move_number(tally, id, by);
+        return Ok(());
+    }
+    tally.insert(id, by)?;
     Ok(())
 }
 

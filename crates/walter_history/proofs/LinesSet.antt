@@ -1,15 +1,21 @@
 -- What follows where one object gets a line, and each other keeps its own.
-use Rattle.std.proofs.Common.{◌≡◌, ◌≤◌, ◌+◌, Bool, true, false, List, Option, Some, None, IsSome, is_some, cond, refl, ap, sym, ◌∙◌, subst, option_map, if◌then◌else◌, arith}
+use Rattle.std.proofs.Common.{◌≡◌, ℕ, ◌≤◌, ◌+◌, Bool, true, false, ◌&&◌, List, slice_get, get_or, position, true≢false, inl, inr, Option, Some, None, IsSome, is_some, cond, refl, ap, sym, ◌∙◌, subst, option_map, if◌then◌else◌, arith}
 use Rattle.std.specs.Option.{option_map_or}
-use Rattle.std.specs.Map.{lookup}
+use Rattle.std.specs.Map.{lookup, keys_of, values_of}
 use Rattle.std.proofs.lemmas.Map.Made.{lookup-map_values}
-use Rattle.indexmap.specs.IndexMap.{IndexMap, WritesThrough}
+use Rattle.std.specs.Cmp.{IsEquivalence}
+use Rattle.std.proofs.lemmas.List.Quantifiers.{position-Some}
+use Rattle.std.proofs.lemmas.Option.{slice_get-map, slice_get_cases, get_or_from_slice_get}
+use Rattle.std.proofs.lemmas.Cmp.{nat_eq_equiv}
+use Rattle.std.proofs.lemmas.Map.Entries.{lookup_from_place}
+use Rattle.indexmap.specs.IndexMap.{IndexMap, IsUnique, WritesThrough, set_value_at}
+use Rattle.indexmap.proofs.CallerLemmas.{updates-with_value_at}
 use Rattle.walter_base.specs.declared.names.ObjId.{ObjId}
 use Rattle.walter_base.specs.Names.{same_object}
 use Rattle.walter_base.proofs.NameTests.{same_object-true, same_object_refl}
 use Rattle.walter_history.specs.declared.line.Line.{Line as Held}
-use Rattle.walter_history.specs.Kept.{none_kept, IsKeptOf}
-use Rattle.walter_history.specs.Lines.{Line, line_of, line_in, lines_in, kept_in, room_in}
+use Rattle.walter_history.specs.Kept.{none_kept, IsKeptOf, IsClean}
+use Rattle.walter_history.specs.Lines.{Line, line_of, line_in, lines_in, kept_in, room_in, AreFirst, AreOwn}
 
 -- what a look-up finds, as a line
 pub line_found : (entries : List (ObjId × Held)) (oid : ObjId) → line_of (lines_in entries) oid ≡ option_map line_in (lookup (same_object oid) entries)
@@ -30,16 +36,16 @@ found_some entries oid is = subst (λ o. IsSome o) (sym (line_found entries oid)
     by None h = absurd cc
     by (Some v) h = refl
 
-pub none_found : (entries : List (ObjId × Held)) (oid : ObjId) → is_some (lookup (same_object oid) entries) ≡ false → line_of (lines_in entries) oid ≡ None
-none_found entries oid is = line_found entries oid ∙ by (lookup (same_object oid) entries) is
-  where
-    by : (o : Option (Held)) → is_some o ≡ false → option_map line_in o ≡ None
-    by None h = refl
-    by (Some v) h = absurd cc
+pub no_value : (o : Option Held) → is_some o ≡ false → o ≡ None
+no_value None is = refl
+no_value (Some v) is = absurd cc
 
--- lines that didn't change keep what they kept
-pub unchanged_own : (old new : List (ObjId × Held)) → new ≡ old → ((oid : ObjId) → IsKeptOf oid (kept_in (lines_in old) oid)) → (oid : ObjId) → IsKeptOf oid (kept_in (lines_in new) oid)
-unchanged_own old new same own oid = subst (λ es. IsKeptOf oid (kept_in (lines_in es) oid)) (sym {A = List (ObjId × Held)} same) (own oid)
+pub none_found : (entries : List (ObjId × Held)) (oid : ObjId) → is_some (lookup (same_object oid) entries) ≡ false → line_of (lines_in entries) oid ≡ None
+none_found entries oid is = line_found entries oid ∙ ap (option_map line_in) (no_value (lookup (same_object oid) entries) is)
+
+-- entries that didn't change are as good as before
+pub unchanged : (n : ℕ) (old new : List (ObjId × Held)) → new ≡ old → AreOwn (lines_in old) × AreFirst IsClean n old → AreOwn (lines_in new) × AreFirst IsClean n new
+unchanged n old new same = subst (λ es. AreOwn (lines_in es) × AreFirst IsClean n es) (sym {A = List (ObjId × Held)} same)
 
 pub closed : (lines : List (ObjId × Line)) (oid : ObjId) → line_of lines oid ≡ None → IsSome (line_of lines oid) → ⊥
 closed lines oid none is = let there : is_some (line_of lines oid) ≡ true = is in absurd (cc (ap is_some none))
@@ -78,6 +84,43 @@ sets_line before after oid v given = record {
       ∙ chosen (same_object oid other) v (lookup (same_object other) before)
       ∙ ap (λ o. if same_object oid other then Some (line_in v) else o) (sym (line_found before other));
 }
+
+-- the entry at a place whose value is known
+pub entry_of : (entries : List (ObjId × Held)) (place : ℕ) (v : Held) → Some v ≡ slice_get (values_of entries) place → (oid : ObjId) × (slice_get entries place ≡ Some (oid, v))
+entry_of entries place v is = elim (slice_get_cases entries place).1 [
+  | inl at ↦
+      let value : Some v ≡ Some at.0.1 = is ∙ slice_get-map (λ e. e.1) entries place ∙ ap (option_map (λ e. e.1)) at.2 in
+      let same : v ≡ at.0.1 = cc in
+      (at.0.0, at.2 ∙ ap (λ w. Some (at.0.0, w)) (sym {A = Held} same))
+  | inr past ↦
+      let value : Some v ≡ None = is ∙ slice_get-map (λ e. e.1) entries place ∙ ap (option_map (λ e. e.1)) past.1 in
+      absurd (true≢false (ap is_some value))
+]
+
+-- and its key, where the object was found there before it moved
+pub entry_found : (before after : List (ObjId × Held)) (oid : ObjId) (found place : ℕ) (v : Held) → position (same_object oid) (keys_of before) ≡ Some found
+    → slice_get after place ≡ slice_get before found → Some v ≡ slice_get (values_of after) place → slice_get after place ≡ Some (oid, v)
+entry_found before after oid found place v is moved value =
+    let entry = entry_of after place v value in
+    let key : slice_get (keys_of before) found ≡ Some entry.0 = slice_get-map (λ e. e.0) before found ∙ ap (option_map (λ e. e.0)) (sym moved ∙ entry.1) in
+    let same = same_object-true oid (get_or (keys_of before) found oid) (position-Some (same_object oid) (keys_of before) found oid is).1 in
+    entry.1 ∙ ap (λ o. Some (o, v)) (sym (same ∙ get_or_from_slice_get (keys_of before) found entry.0 oid key))
+
+same_object_laws : IsEquivalence same_object
+same_object_laws = record {
+  refl = same_object_refl;
+  symm = λ x y. (λ j. nat_eq_equiv.symm x.container y.container j && nat_eq_equiv.symm x.local y.local j);
+  congr = λ x y z is. ap (λ o. same_object o z) (same_object-true x y is);
+}
+
+-- and so does a value at a place of the map, under the key there
+module _ {S : Type 0} (before : IndexMap ObjId Held S) (place : ℕ) (oid : ObjId) (was : Held) (unique : IsUnique same_object before)
+    (at : slice_get before.entries place ≡ Some (oid, was)) where
+  pub sets_at : (v : Held) → Sets (lines_in before.entries) (lines_in (set_value_at before.entries place v)) oid (line_in v)
+  sets_at v = sets_line before.entries (set_value_at before.entries place v) oid v (updates-with_value_at before place v same_object_laws unique oid was at).0
+
+  pub line_at : line_of (lines_in before.entries) oid ≡ Some (line_in was)
+  line_at = line_is before.entries oid was (sym (lookup_from_place same_object_laws before.entries place oid was unique at))
 
 -- and so does a write through the row that a look-up lends
 pub sets_lent : {S : Type 0} (before after : IndexMap ObjId (Held) S) (oid : ObjId) (was v : Held)

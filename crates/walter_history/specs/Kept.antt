@@ -53,6 +53,11 @@ pub record IsFoldedAt (floor : List ℕ) (kept : Kept) : Type 0 where
   pub writes : seen_updates floor kept.writes ≡ []
   pub steps : seen_updates floor kept.steps ≡ []
 
+-- nothing is kept that a fold may take
+pub record IsClean (kept : Kept) : Type 0 where
+  pub writes : kept.writes ≡ []
+  pub steps : kept.steps ≡ []
+
 -- what is kept of an object is of it, and its writes are writes
 pub record IsKeptOf (oid : ObjId) (kept : Kept) : Type 0 where
   pub writes : AreOf oid kept.writes

@@ -1,14 +1,14 @@
 -- A history as the list of its lines: each object that has a row, with what is kept of it and the room for more; and
 -- the vector at which it was folded last.
-use Rattle.std.specs.Prelude.{ℕ, ◌-◌, ◌≤◌, min, List, map, Option, IsSome, vec_len, vec_capacity}
+use Rattle.std.specs.Prelude.{ℕ, ◌-◌, ◌≤◌, min, List, All, length, map, take, Option, IsSome, vec_len, vec_capacity}
 use Rattle.std.specs.Option.{option_map_or}
 use Rattle.std.specs.Map.{lookup}
 use Rattle.std.specs.Global.{Vec}
 use Rattle.walter_base.specs.declared.names.ObjId.{ObjId}
+use Rattle.walter_base.specs.declared.update.Row.{Row}
 use Rattle.walter_base.specs.Names.{same_object}
 use Rattle.walter_history.specs.declared.line.Line.{Line as Held}
-use Rattle.walter_history.specs.Folded.{Folds}
-use Rattle.walter_history.specs.Kept.{Kept, none_kept}
+use Rattle.walter_history.specs.Kept.{Kept, none_kept, IsKeptOf, StandsForRows}
 
 -- what is kept of an object, and how many more rows can be appended without memory
 pub record Line : Type 0 where
@@ -62,7 +62,18 @@ line_in held = record {
 abbrev pub lines_in : List (ObjId × Held) → List (ObjId × Line)
 lines_in entries = map (λ e. (e.0, line_in e.1)) entries
 
--- a line is folded, and has no less room
-pub record LineFolds (floor : List ℕ) (old new : Held) : Type 0 where
-  pub folds : Folds floor (kept_by old) (kept_by new)
-  pub room : (line_in old).room ≤ (line_in new).room
+-- there are so many lines, and what each of the first so many keeps is as P says
+pub record AreFirst (P : Kept → Type 0) (n : ℕ) (entries : List (ObjId × Held)) : Type 0 where
+  pub within : n ≤ length entries
+  pub each : All (λ e. P (kept_by e.1)) (take n entries)
+
+-- what is kept of each object is of it
+abbrev pub AreOwn : List (ObjId × Line) → Type 0
+AreOwn lines = (oid : ObjId) → IsKeptOf oid (kept_in lines oid)
+
+-- at the floor the new lines stand for what the old ones do, and have no less room
+pub record StandAs (floor : List ℕ) (old new : List (ObjId × Line)) : Type 0 where
+  pub stands : (oid : ObjId) (rows : List Row)
+      → StandsForRows oid floor (kept_in old oid) rows → StandsForRows oid floor (kept_in new oid) rows
+  pub still : (oid : ObjId) → IsSome (line_of old oid) → IsSome (line_of new oid)
+  pub room : (oid : ObjId) → room_in old oid ≤ room_in new oid

@@ -10,9 +10,10 @@ ghost use Rattle.walter_history.specs.Folded.{appended, Folds};
 ghost use Rattle.walter_history.specs.Kept.{StandsForRows, IsFoldedAt, IsKeptOf, value_by};
 ghost use Rattle.walter_history.specs.Rows.{seen_updates};
 ghost use Rattle.walter_history.specs.Steps.{told, AreBehind};
-ghost use Rattle.walter_history.specs.Lines.{IsOpen, kept_of, room_of, LineFolds};
+ghost use Rattle.walter_history.specs.Lines.{IsOpen, kept_of, room_of};
 
-use crate::line::{Line, append, fold, make_room, no_line, value_of};
+use crate::line::{Line, append, make_room, no_line, value_of};
+use crate::lines::{fold_lines, leave_clean};
 use crate::rows::{Kept, all_seen};
 use crate::steps::Step;
 use indexmap::IndexMap;
@@ -21,25 +22,27 @@ use std::marker::Model;
 use walter_base::{Bytes, Mem, ObjId, Row, Version, Vts};
 
 /// What is kept of the rows of each object, folded at a vector: the floor. Contracts see it and the list of lines, and
-/// read these by `kept_of`, `room_of` and `IsOpen`: functions of the object.
+/// read these by `kept_of`, `room_of` and `IsOpen`: functions of the object. A fold passes over the first lines, as
+/// many as `clean` says, since nothing is left to fold there.
 #[derive(Drop)]
 pub struct History {
     alloc: Global,
     floor: Vts,
     lines: IndexMap<ObjId, Line>,
+    clean: usize,
 }
 
 impl Model for History {
     ghost use Rattle.walter_base.specs.declared.names.ObjId.{ObjId};
-    ghost use Rattle.walter_history.specs.Kept.{IsKeptOf};
+    ghost use Rattle.walter_history.specs.Kept.{IsKeptOf, IsClean};
     ghost use Rattle.walter_history.specs.Rows.{seen_updates};
-    ghost use Rattle.walter_history.specs.Lines.{Table, lines_in, kept_in};
+    ghost use Rattle.walter_history.specs.Lines.{Table, lines_in, kept_in, AreOwn, AreFirst};
 
     ghost Value = { Table };
 
     ghost view = { λ h. record { floor = h.floor; lines = lines_in h.lines.entries } };
 
-    ghost invariant = { λ h. (oid : ObjId) → IsKeptOf oid (kept_in (lines_in h.lines.entries) oid) };
+    ghost invariant = { λ h. AreOwn (lines_in h.lines.entries) × AreFirst IsClean h.clean h.lines.entries };
 }
 
 impl History {
@@ -52,6 +55,7 @@ impl History {
             alloc,
             floor: Vts::zero(sites),
             lines: IndexMap::new(alloc),
+            clean: 0,
         }
     }
 
@@ -105,7 +109,12 @@ impl History {
             ≤ room_of self.new other + 1 }
         ensures floor { self.new.floor ≡ self.old.floor }
     {
-        let Some(line) = self.lines.get_mut(&oid) else {
+        let Some(found) = self.lines.get_index_of(&oid) else {
+            return;
+        };
+        let place = leave_clean(&mut self.lines, self.clean, found);
+        self.clean = self.clean.min(place);
+        let Some(line) = self.lines.get_index_mut(place) else {
             return;
         };
         append(line, row);
@@ -122,14 +131,7 @@ impl History {
         ensures still { (oid : Object) → IsOpen self.old oid → IsOpen self.new oid }
         ensures room { (oid : Object) → room_of self.old oid ≤ room_of self.new oid }
     {
-        self.lines.retain(
-            |_oid: &ObjId, line: &mut Line| -> bool
-                ensures { (result ≡ true) × LineFolds floor.entry.now line.old line.new }
-            {
-                fold(line, floor);
-                true
-            },
-        );
+        self.clean = fold_lines(&mut self.lines, self.clean, floor);
         self.floor = *floor;
     }
 

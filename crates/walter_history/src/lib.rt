@@ -4,6 +4,7 @@
 mod folding;
 mod history;
 mod line;
+mod lines;
 mod rows;
 mod steps;
 

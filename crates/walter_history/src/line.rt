@@ -1,7 +1,7 @@
-ghost use Rattle.std.specs.Prelude.{◌≡◌, ◌<◌, ◌≤◌, ◌+◌, ◌-◌, ◌++◌, ◌∷◌, [], OnOk, if◌then◌else◌};
+ghost use Rattle.std.specs.Prelude.{◌≡◌, ◌<◌, ◌≤◌, ◌+◌, ◌-◌, ◌++◌, ◌∷◌, ◌↔◌, [], IsTrue, OnOk, if◌then◌else◌};
 ghost use Rattle.std.specs.Option.{option_copied};
 ghost use Rattle.walter_base.specs.Values.{object_of};
-ghost use Rattle.walter_history.specs.Kept.{is_write, none_kept, value_by, IsKeptOf, IsFoldedAt};
+ghost use Rattle.walter_history.specs.Kept.{is_write, none_kept, value_by, IsKeptOf, IsFoldedAt, IsClean};
 ghost use Rattle.walter_history.specs.Folded.{appended, Folds};
 ghost use Rattle.walter_history.specs.Lines.{line_in, kept_by};
 
@@ -67,6 +67,13 @@ pub fn fold(line: &mut Line, floor: &Vts)
 {
     fold_writes(&mut line.writes, &mut line.value, floor);
     line.steps.fold(floor);
+}
+
+/// Whether nothing is kept that a fold may take.
+pub fn is_clean(line: &Line) -> bool
+    ensures { IsTrue result ↔ IsClean (kept_by line.now) }
+{
+    line.writes.is_empty() && line.steps.is_empty()
 }
 
 /// The value that the updates seen by the vector leave the object.

@@ -1,6 +1,6 @@
 //! The changes of a set that weren't folded, in the order of arrival. Each knows a vector that sees all before it: who
 //! goes from one vector to another looks at them from the end, to the one whose vector both cover.
-ghost use Rattle.std.specs.Prelude.{◌≡◌, ◌<◌, ◌≤◌, ◌+◌, ◌++◌, ◌∷◌, [], true, not, filter, take, length, All, IsTrue, IfSome, OnOk};
+ghost use Rattle.std.specs.Prelude.{◌≡◌, ◌<◌, ◌≤◌, ◌+◌, ◌++◌, ◌∷◌, ◌↔◌, [], true, not, filter, take, length, All, IsTrue, IfSome, OnOk};
 ghost use Rattle.walter_base.specs.declared.update.Row.{Row as Told};
 ghost use Rattle.walter_base.specs.Vectors.{entry_at};
 ghost use Rattle.walter_history.specs.Rows.{sees_row};
@@ -63,6 +63,13 @@ impl Steps {
     {
         let before = reach(&self.items);
         self.items.push_reserved(Step { row, before });
+    }
+
+    /// Whether there is none.
+    pub fn is_empty(&self) -> bool
+        ensures { IsTrue result ↔ (self.now.rows ≡ []) }
+    {
+        self.items.is_empty()
     }
 
     /// Those that the vector sees go.

@@ -1,5 +1,6 @@
 //! The rows of objects, folded at what nobody looks behind any more.
 ghost use Rattle.std.specs.Prelude.{◌≡◌};
+ghost use Rattle.walter_base.specs.Vectors.{Covers};
 ghost use Rattle.walter_rules.specs.Knowledge.{Knowledge};
 ghost use Rattle.walter_tables.specs.Folding.{IsTidy};
 ghost use Rattle.walter_tables.specs.Sites.{values_of, site_of, catalog_of, Stands};
@@ -13,6 +14,7 @@ impl Tables {
     /// memory, and nothing that is read changes.
     pub fn tidy(&mut self)
         ensures tidy { IsTidy self.new }
+        ensures rises { Covers self.new.history.floor self.old.history.floor }
         ensures stands { (K : Knowledge) → Stands self.old K → Stands self.new K }
         ensures site { site_of self.new ≡ site_of self.old }
         ensures catalog { catalog_of self.new ≡ catalog_of self.old }

@@ -43,7 +43,8 @@ impl Tables {
         ensures session { option_map session_view (option_copied result)
             ≡ open_in (session_of self.entry.now.sessions client) }
         ensures small { IfSome (option_copied result) (λ session. AreSmall session.updates.items) }
-        ensures covers { IfSome (option_copied result) (λ session. Covers session.snapshot self.entry.now.history.floor) }
+        ensures covers { IfSome (option_copied result)
+            (λ session. Covers session.snapshot self.entry.now.history.floor) }
     {
         let session = self.sessions.get(client)?;
         if session.slow > 0 {

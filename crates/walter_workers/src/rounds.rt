@@ -54,9 +54,10 @@ fn round<D: Disk + Drop, S: Source + Drop, K: Sink + Drop>(
     ensures keeps { Keeps D.Disk bench.old bench.new }
     ensures arms { KeepsArms (moment_of D.Disk bench.old.cells) (moment_of D.Disk bench.new.cells) }
     ensures works { OnOk result (CanWork D.Disk scenario.now bench.new pumps.new) }
-    ensures moves { IfOk result (Moves (CanFail S.Source K.Sink) (trails_of bench.old.cells) (trails_of bench.new.cells)) }
-    ensures driven { result ≡ Ok false → IsDriven (λ i. IsToldAt D.Disk i bench.new) (CanFail S.Source K.Sink) scenario.now
-        (trails_of bench.new.cells) }
+    ensures moves { IfOk result
+        (Moves (CanFail S.Source K.Sink) (trails_of bench.old.cells) (trails_of bench.new.cells)) }
+    ensures driven { result ≡ Ok false → IsDriven (λ i. IsToldAt D.Disk i bench.new) (CanFail S.Source K.Sink)
+        scenario.now (trails_of bench.new.cells) }
 {
     let called = turn_all(alloc, bench, scenario)?;
     let did = pump_all(alloc, bench, pumps, scenario)?;
@@ -76,9 +77,10 @@ fn turn_all<D: Disk + Drop, S: Source + Drop, K: Sink + Drop>(
     ensures arms { KeepsArms (moment_of D.Disk bench.old.cells) (moment_of D.Disk bench.new.cells) }
     ensures works { (pumps : List PumpValue) → CanWork D.Disk scenario.now bench.old pumps
         → CanWork D.Disk scenario.now bench.new pumps }
-    ensures moves { IfOk result (Moves (CanFail S.Source K.Sink) (trails_of bench.old.cells) (trails_of bench.new.cells)) }
-    ensures called { result ≡ Ok false → HaveAllCalled (CanFail S.Source K.Sink) scenario.now (trails_of bench.new.cells)
-        (length scenario.now.clients) }
+    ensures moves { IfOk result
+        (Moves (CanFail S.Source K.Sink) (trails_of bench.old.cells) (trails_of bench.new.cells)) }
+    ensures called { result ≡ Ok false → HaveAllCalled (CanFail S.Source K.Sink) scenario.now
+        (trails_of bench.new.cells) (length scenario.now.clients) }
 {
     let mut moved = false;
     for number in 0..scenario.clients.as_slice().len() as u32 {

@@ -9,7 +9,7 @@ value_of-requires c =
     let entries = c.self.inside.lines.entries in
     let here : kept_of c.args.self.now c.args.oid ≡ kept_by c.in-Some.line.now =
     ap (λ t. kept_of t c.args.oid) (sym c.self.view_is) ∙ kept_at (lines_in entries) c.args.oid _ (line_is entries c.args.oid c.in-Some.line.now c.in-Some.ensures.value) in
-    subst (IsKeptOf c.args.oid) (kept_at (lines_in entries) c.args.oid _ (line_is entries c.args.oid c.in-Some.line.now c.in-Some.ensures.value)) (c.self.invariant c.args.oid)
+    subst (IsKeptOf c.args.oid) (kept_at (lines_in entries) c.args.oid _ (line_is entries c.args.oid c.in-Some.line.now c.in-Some.ensures.value)) (c.self.invariant.0 c.args.oid)
 
 pub returns-in-Some-clause-value : goal.returns-in-Some-clause-value
 returns-in-Some-clause-value c =

@@ -1,9 +1,12 @@
-use Rattle.std.proofs.Common.{rules, ◌≡◌, ap, sym, ◌∙◌, subst}
-use Rattle.walter_history.specs.Kept.{Kept}
-use Rattle.walter_history.specs.Lines.{lines_in, kept_of, room_of, IsOpen}
-use Rattle.walter_history.proofs.LinesSet.{found_some, none_found, no_kept, no_room, sets_line, opened, still, kept_kept, room_kept, own_set}
+use Rattle.std.proofs.Common.{rules, ◌≡◌, ◌∷◌, [], ap, sym, ◌∙◌, subst}
+use Rattle.std.specs.Map.{lookup}
+use Rattle.indexmap.proofs.CallerLemmas.{insert_entry-new}
+use Rattle.walter_base.specs.Names.{same_object}
+use Rattle.walter_history.specs.Kept.{Kept, IsClean}
+use Rattle.walter_history.proofs.LinesFirst.{append_behind}
+use Rattle.walter_history.specs.Lines.{AreFirst, lines_in, kept_of, room_of, IsOpen}
+use Rattle.walter_history.proofs.LinesSet.{no_value, unchanged, found_some, none_found, no_kept, no_room, sets_line, opened, still, kept_kept, room_kept, own_set}
 use Rattle.walter_history.proofs.Owned.{none_own}
-use Rattle.walter_history.proofs.LinesSet.{unchanged_own}
 use Rattle.walter_history.proofs.history.History.open_row.Goals as goal
 
 pub returns-then-contains_key-clause-opened : goal.returns-then-contains_key-clause-opened
@@ -15,7 +18,11 @@ invariant_of-self-2 c =
     let entries = c.self.inside.lines.entries in
     let oid = c.args.oid in
     let sets = sets_line entries c.insert.new.self.entries oid c.no_line.result c.in_ok-insert.ensures.updates.0 in
-    own_set (lines_in entries) _ oid _ sets c.self.invariant (none_own oid _ c.no_line.ensures.kept)
+    let none = no_value (lookup (same_object oid) entries) (sym c.contains_key.ensures ∙ c.if-contains_key.false) in
+    let last = c.in_ok-insert.ensures.entries ∙ insert_entry-new same_object c.self.inside.lines oid c.no_line.result none in (
+      own_set (lines_in entries) _ oid _ sets c.self.invariant.0 (none_own oid _ c.no_line.ensures.kept),
+      subst (AreFirst IsClean c.self.inside.clean) (sym last) (append_behind IsClean c.self.inside.clean entries ((oid, c.no_line.result) ∷ []) c.self.invariant.1),
+    )
 
 pub returns : goal.returns
 returns c =
@@ -34,4 +41,4 @@ returns c =
 pub invariant_of-self : goal.invariant_of-self
 invariant_of-self c =
     let same : c.insert.new.self.entries ≡ c.self.inside.lines.entries = search rules in
-    unchanged_own _ _ same c.self.invariant
+    unchanged c.self.inside.clean _ _ same c.self.invariant

@@ -1,8 +1,9 @@
 use Rattle.std.proofs.Common.{rules, ◌≡◌, ◌≤◌, sym, ap, ◌∙◌, subst, OnOk, Ok, Err}
-use Rattle.walter_history.specs.Kept.{Kept, IsKeptOf}
-use Rattle.walter_history.specs.Lines.{lines_in, line_in, kept_of, room_in, room_of, IsOpen}
-use Rattle.walter_history.proofs.LinesSet.{line_is, no_line, closed, kept_at, room_at, sets_lent, line_now, opened, still, kept_kept, room_more, own_set}
-use Rattle.walter_history.proofs.LinesSet.{unchanged_own}
+use Rattle.walter_base.specs.Names.{same_object}
+use Rattle.walter_history.specs.Kept.{Kept, IsKeptOf, IsClean}
+use Rattle.walter_history.proofs.LinesFirst.{set_same}
+use Rattle.walter_history.specs.Lines.{AreFirst, lines_in, line_in, kept_of, room_in, room_of, IsOpen}
+use Rattle.walter_history.proofs.LinesSet.{unchanged, line_is, no_line, closed, kept_at, room_at, sets_lent, line_now, opened, still, kept_kept, room_more, own_set}
 use Rattle.walter_history.proofs.history.History.reserve.Goals as goal
 
 pub returns-in_default-clause-enough : goal.returns-in_default-clause-enough
@@ -15,8 +16,15 @@ invariant_of-self-2 c =
     let entries = c.self.inside.lines.entries in
     let oid = c.args.oid in
     let here = line_is entries oid c.in-Some.line.now c.in-Some.ensures.value in
-    let sets = sets_lent c.self.inside.lines _ oid c.in-Some.line.now c.make_room.new.line c.in-Some.ensures.value (c.get_mut.follows.holds c.make_room.new.line) in
-    own_set (lines_in entries) _ oid _ sets c.self.invariant (subst (IsKeptOf oid) (kept_at (lines_in entries) oid _ here ∙ sym {A = Kept} c.make_room.ensures.kept) (c.self.invariant oid))
+    let was = c.in-Some.line.now in
+    let v = c.make_room.new.line in
+    let writes = c.get_mut.follows.holds v in
+    let sets = sets_lent c.self.inside.lines _ oid was v c.in-Some.ensures.value writes in
+    let own = subst (IsKeptOf oid) (kept_at (lines_in entries) oid _ here ∙ sym {A = Kept} c.make_room.ensures.kept) (c.self.invariant.0 oid) in (
+      own_set (lines_in entries) _ oid _ sets c.self.invariant.0 own,
+      subst (AreFirst IsClean c.self.inside.clean) (sym writes.0)
+          (set_same IsClean c.self.inside.clean entries c.self.invariant.1 (same_object oid) was v (sym c.in-Some.ensures.value) c.make_room.ensures.kept),
+    )
 
 pub returns : goal.returns
 returns c =
@@ -42,4 +50,4 @@ returns c =
 pub invariant_of-self : goal.invariant_of-self
 invariant_of-self c =
     let same : c.get_mut.follows.lender-at-none.entries ≡ c.self.inside.lines.entries = search rules in
-    unchanged_own _ _ same c.self.invariant
+    unchanged c.self.inside.clean _ _ same c.self.invariant

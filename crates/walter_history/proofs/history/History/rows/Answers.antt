@@ -34,7 +34,7 @@ returns-in-Some-clause-steps c =
 
 pub returns-in-Some-clause-own : goal.returns-in-Some-clause-own
 returns-in-Some-clause-own c =
-    subst (λ t. IsKeptOf c.args.oid (kept_of t c.args.oid)) c.self.view_is (c.self.invariant c.args.oid)
+    subst (λ t. IsKeptOf c.args.oid (kept_of t c.args.oid)) c.self.view_is (c.self.invariant.0 c.args.oid)
 
 pub returns-in-None-clause-value : goal.returns-in-None-clause-value
 returns-in-None-clause-value c =
@@ -66,4 +66,4 @@ returns-in-None-clause-steps c =
 
 pub returns-in-None-clause-own : goal.returns-in-None-clause-own
 returns-in-None-clause-own c =
-    subst (λ t. IsKeptOf c.args.oid (kept_of t c.args.oid)) c.self.view_is (c.self.invariant c.args.oid)
+    subst (λ t. IsKeptOf c.args.oid (kept_of t c.args.oid)) c.self.view_is (c.self.invariant.0 c.args.oid)
