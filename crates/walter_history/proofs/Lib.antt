@@ -1,3 +1,4 @@
+mod Covered
 pub mod Fronts
 pub mod LastSeen
 pub mod LinesFirst

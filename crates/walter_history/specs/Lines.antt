@@ -45,7 +45,7 @@ room_of table oid = room_in table.lines oid
 abbrev pub kept_by : Held → Kept
 kept_by held = record {
   value = held.value;
-  versions = held.versions.items;
+  versions = held.versions.versions;
   writes = held.writes.items;
   steps = held.steps.rows;
 }
@@ -56,7 +56,7 @@ spare_of v = vec_capacity v - vec_len v
 abbrev pub line_in : Held → Line
 line_in held = record {
   kept = kept_by held;
-  room = min (spare_of held.versions) (min (spare_of held.writes) held.steps.room);
+  room = min held.versions.room (min (spare_of held.writes) held.steps.room);
 }
 
 abbrev pub lines_in : List (ObjId × Held) → List (ObjId × Line)

@@ -1,31 +1,28 @@
 -- The changes of a set, each with a vector that sees those before it, and which of them two vectors can see
 -- differently.
-use Rattle.std.specs.Prelude.{◌≡◌, ◌++◌, ℕ, true, List, map, length, Option, IfSome, All, AllPairs}
+use Rattle.std.specs.Prelude.{◌≡◌, ◌++◌, ℕ, true, List, map, take, All, AllPairs}
 use Rattle.walter_base.specs.declared.update.Row.{Row}
-use Rattle.walter_base.specs.Vectors.{most_sites}
 use Rattle.walter_history.specs.declared.steps.Step.{Step}
+use Rattle.walter_history.specs.Reaches.{Reaches, IsWide}
 use Rattle.walter_history.specs.Rows.{sees_row}
 
 abbrev pub told : List Step → List Row
 told steps = map (λ step. step.row) steps
 
--- the vector, if there is one, sees the row
-abbrev pub Reaches : Option (List ℕ) → Row → Type 0
-Reaches vector row = IfSome vector (λ v. sees_row v row ≡ true)
-
--- it has an entry for each site that there may be
-abbrev pub IsWide : Option (List ℕ) → Type 0
-IsWide vector = IfSome vector (λ v. length v ≡ most_sites)
-
 -- each step's vector sees the steps before it
 pub record AreLinked (steps : List Step) : Type 0 where
-  pub pairs : AllPairs (λ a b. Reaches b.before a.row) steps
+  pub pairs : AllPairs (λ a b. Reaches b.before a.row.version) steps
   pub wide : All (λ step. IsWide step.before) steps
 
 -- the rows of the steps, and how many more can be pushed without memory
 pub record Stepped : Type 0 where
   pub rows : List Row
   pub room : ℕ
+
+-- both vectors see the first so many steps
+abbrev pub AreSeenBefore : ℕ → List ℕ → List ℕ → List Step → Type 0
+AreSeenBefore place from to steps =
+    All (λ step. (sees_row from step.row ≡ true) × (sees_row to step.row ≡ true)) (take place steps)
 
 -- rows of which both vectors see all that stand before these
 pub record AreBehind (from to : List ℕ) (rows back : List Row) : Type 0 where

@@ -14,7 +14,7 @@ ghost use Rattle.walter_history.specs.Lines.{IsOpen, kept_of, room_of};
 
 use crate::line::{Line, append, make_room, no_line, value_of};
 use crate::lines::{fold_lines, leave_clean};
-use crate::rows::{Kept, all_seen};
+use crate::rows::Kept;
 use crate::steps::Step;
 use indexmap::IndexMap;
 use std::alloc::Global;
@@ -146,7 +146,7 @@ impl History {
         match self.lines.get(&oid) {
             Some(line) => Kept {
                 value: line.value.as_ref(),
-                versions: &line.versions,
+                versions: line.versions.as_slice(),
                 writes: &line.writes,
                 steps: line.steps.as_slice(),
             },
@@ -189,7 +189,7 @@ impl History {
         ensures first { IfErr result (λ version. first_outside by.now (kept_of self.now oid).versions ≡ Some version) }
     {
         match self.lines.get(&oid) {
-            Some(line) => all_seen(&line.versions, by),
+            Some(line) => line.versions.all_seen(by),
             None => Ok(()),
         }
     }

@@ -5,8 +5,10 @@ mod folding;
 mod history;
 mod line;
 mod lines;
+mod reach;
 mod rows;
 mod steps;
+mod versions;
 
 pub use history::History;
 pub use rows::Kept;

@@ -8,15 +8,16 @@ ghost use Rattle.walter_history.specs.Lines.{line_in, kept_by};
 use crate::folding::fold_writes;
 use crate::rows::last_seen;
 use crate::steps::Steps;
+use crate::versions::Versions;
 use std::alloc::Global;
-use walter_base::{Bytes, Mem, ObjId, Row, Update, Version, Vts};
+use walter_base::{Bytes, Mem, ObjId, Row, Update, Vts};
 
 /// What is kept of the rows of an object. The value is that of the writes that were folded; the versions are those of
 /// all writes.
 #[derive(Drop)]
 pub struct Line {
     pub value: Option<Bytes>,
-    pub versions: Vec<Version>,
+    pub versions: Versions,
     pub writes: Vec<Row>,
     pub steps: Steps,
 }
@@ -28,7 +29,7 @@ pub fn no_line(alloc: Global) -> Line
 {
     Line {
         value: None,
-        versions: Vec::new(alloc),
+        versions: Versions::new(alloc),
         writes: Vec::new(alloc),
         steps: Steps::new(alloc),
     }
@@ -40,7 +41,7 @@ pub fn make_room(line: &mut Line, k: u64) -> Mem<()>
     ensures enough { OnOk result (k ≤ (line_in line.new).room) }
     ensures more { (line_in line.old).room ≤ (line_in line.new).room }
 {
-    line.versions.reserve(k as usize)?;
+    line.versions.reserve(k)?;
     line.writes.reserve(k as usize)?;
     line.steps.reserve(k)
 }
@@ -53,7 +54,7 @@ pub fn append(line: &mut Line, row: Row)
 {
     match row.update {
         Update::Write(_, _) => {
-            line.versions.push_reserved(row.version);
+            line.versions.push(row.version);
             line.writes.push_reserved(row);
         }
         Update::Add(_, _) | Update::Del(_, _) => line.steps.push(row),

@@ -1,14 +1,16 @@
 //! The changes of a set that weren't folded, in the order of arrival. Each knows a vector that sees all before it: who
 //! goes from one vector to another looks at them from the end, to the one whose vector both cover.
-ghost use Rattle.std.specs.Prelude.{◌≡◌, ◌<◌, ◌≤◌, ◌+◌, ◌++◌, ◌∷◌, ◌↔◌, [], true, not, filter, take, length, All, IsTrue, IfSome, OnOk};
-ghost use Rattle.walter_base.specs.declared.update.Row.{Row as Told};
-ghost use Rattle.walter_base.specs.Vectors.{entry_at};
+ghost use Rattle.std.specs.Prelude.{◌≡◌, ◌<◌, ◌≤◌, ◌+◌, ◌++◌, ◌∷◌, ◌↔◌, [], true, not, filter, take, length, All, IsTrue, OnOk};
+ghost use Rattle.walter_base.specs.declared.names.Version.{Version as Named};
+ghost use Rattle.walter_base.specs.Conflicts.{sees_version};
+ghost use Rattle.walter_history.specs.Reaches.{Reaches, IsWide};
 ghost use Rattle.walter_history.specs.Rows.{sees_row};
-ghost use Rattle.walter_history.specs.Steps.{told, Reaches, IsWide, AreLinked, AreBehind};
+ghost use Rattle.walter_history.specs.Steps.{told, AreLinked, AreSeenBefore, AreBehind};
 
+use crate::reach::{is_covered, no_reach, with_version};
 use std::alloc::Global;
 use std::marker::Model;
-use walter_base::{MOST_SITES, Mem, Row, Version, Vts};
+use walter_base::{Mem, Row, Vts};
 
 /// A change of a set, with a vector that sees those before it, if one is known.
 #[derive(Debug, Drop)]
@@ -103,56 +105,72 @@ impl Steps {
 /// A vector that sees all steps, if one is known.
 fn reach(steps: &[Step]) -> Option<Vts>
     requires { AreLinked steps.now }
-    ensures sees { All (λ step. Reaches result step.row) steps.now }
+    ensures sees { All (λ step. Reaches result step.row.version) steps.now }
     ensures wide { IsWide result }
 {
     match steps.split_last() {
-        None => Some(Vts::zero(MOST_SITES as u8)),
+        None => no_reach(),
         Some((last, _)) => with_version(last.before, last.row.version),
     }
 }
 
-/// The vector raised so that it sees the version, where it has an entry for its site.
-fn with_version(vector: Option<Vts>, version: Version) -> Option<Vts>
-    requires { IsWide vector }
-    ensures sees { IfSome result (λ v. version.seq ≤ entry_at v version.site) }
-    ensures keeps { (row : Told) → Reaches vector row → Reaches result row }
-    ensures wide { IsWide result }
-{
-    let Some(mut reach) = vector else {
-        return None;
-    };
-    if usize::from(version.site.0) >= MOST_SITES {
-        return None;
-    }
-    reach.raise(version.site, version.seq);
-    Some(reach)
-}
-
 /// Whether both vectors see whatever the first one sees.
 fn both_cover(vector: &Option<Vts>, from: &Vts, to: &Vts) -> bool
-    ensures { IsTrue result → (row : Told) → Reaches vector.now row
-        → (sees_row from.now row ≡ true) × (sees_row to.now row ≡ true) }
+    ensures { IsTrue result → (version : Named) → Reaches vector.now version
+        → (sees_version from.now version ≡ true) × (sees_version to.now version ≡ true) }
 {
-    match vector {
-        Some(vector) => from.covers(vector) && to.covers(vector),
-        None => false,
-    }
+    is_covered(vector, from) && is_covered(vector, to)
 }
 
 /// How many of the steps stand before all that the vectors may see differently.
 fn first_between(steps: &[Step], from: &Vts, to: &Vts) -> usize
     requires { AreLinked steps.now }
     ensures within { result ≤ length steps.now }
-    ensures seen { All (λ step. (sees_row from.now step.row ≡ true) × (sees_row to.now step.row ≡ true))
-        (take result steps.now) }
+    ensures seen { AreSeenBefore result from.now to.now steps.now }
 {
-    let mut place = steps.len();
-    while place > 0 {
-        place -= 1;
+    let (place, end) = stride_back(steps, from, to);
+    halve(steps, from, to, place, end)
+}
+
+/// A place before which both vectors see all steps, looked for from the end in strides that double; and the last place
+/// that was looked at before it.
+fn stride_back(steps: &[Step], from: &Vts, to: &Vts) -> (usize, usize)
+    requires { AreLinked steps.now }
+    ensures order { result.0 ≤ result.1 }
+    ensures within { result.1 ≤ length steps.now }
+    ensures seen { AreSeenBefore result.0 from.now to.now steps.now }
+{
+    let mut end = steps.len();
+    let mut stride = 1;
+    while stride < end {
+        let place = end - stride;
         if both_cover(&steps[place].before, from, to) {
-            return place;
+            return (place, end);
+        }
+        end = place;
+        stride *= 2;
+    }
+    (0, end)
+}
+
+/// Goes on from a place before which both vectors see all steps, by halves and before the end.
+fn halve(steps: &[Step], from: &Vts, to: &Vts, place: usize, end: usize) -> usize
+    requires linked { AreLinked steps.now }
+    requires order { place ≤ end }
+    requires end { end ≤ length steps.now }
+    requires seen { AreSeenBefore place from.now to.now steps.now }
+    ensures within { result ≤ length steps.now }
+    ensures seen { AreSeenBefore result from.now to.now steps.now }
+{
+    let mut place = place;
+    let mut end = end;
+    while place + 1 < end {
+        let middle = place + (end - place) / 2;
+        if both_cover(&steps[middle].before, from, to) {
+            place = middle;
+        } else {
+            end = middle;
         }
     }
-    0
+    place
 }

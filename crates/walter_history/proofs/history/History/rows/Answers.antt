@@ -16,21 +16,21 @@ returns-in-Some-clause-versions c =
     let entries = c.self.inside.lines.entries in
     let here : kept_of c.args.self.now c.args.oid ≡ kept_by c.in-Some.line.now =
     ap (λ t. kept_of t c.args.oid) (sym c.self.view_is) ∙ kept_at (lines_in entries) c.args.oid _ (line_is entries c.args.oid c.in-Some.line.now c.in-Some.ensures.value) in
-    c.deref.ensures.value ∙ ap (λ k. k.versions) (sym {A = Kept} here)
+    c.as_slice.ensures ∙ ap (λ k. k.versions) (sym {A = Kept} here)
 
 pub returns-in-Some-clause-writes : goal.returns-in-Some-clause-writes
 returns-in-Some-clause-writes c =
     let entries = c.self.inside.lines.entries in
     let here : kept_of c.args.self.now c.args.oid ≡ kept_by c.in-Some.line.now =
     ap (λ t. kept_of t c.args.oid) (sym c.self.view_is) ∙ kept_at (lines_in entries) c.args.oid _ (line_is entries c.args.oid c.in-Some.line.now c.in-Some.ensures.value) in
-    c.deref-in-Some.ensures.value ∙ ap (λ k. k.writes) (sym {A = Kept} here)
+    c.deref.ensures.value ∙ ap (λ k. k.writes) (sym {A = Kept} here)
 
 pub returns-in-Some-clause-steps : goal.returns-in-Some-clause-steps
 returns-in-Some-clause-steps c =
     let entries = c.self.inside.lines.entries in
     let here : kept_of c.args.self.now c.args.oid ≡ kept_by c.in-Some.line.now =
     ap (λ t. kept_of t c.args.oid) (sym c.self.view_is) ∙ kept_at (lines_in entries) c.args.oid _ (line_is entries c.args.oid c.in-Some.line.now c.in-Some.ensures.value) in
-    c.as_slice.ensures ∙ ap (λ k. k.steps) (sym {A = Kept} here)
+    c.as_slice-in-Some.ensures ∙ ap (λ k. k.steps) (sym {A = Kept} here)
 
 pub returns-in-Some-clause-own : goal.returns-in-Some-clause-own
 returns-in-Some-clause-own c =

@@ -10,14 +10,14 @@ returns-in-Some-clause-seen c =
     let entries = c.self.inside.lines.entries in
     let here : kept_of c.args.self.now c.args.oid ≡ kept_by c.in-Some.line.now =
     ap (λ t. kept_of t c.args.oid) (sym c.self.view_is) ∙ kept_at (lines_in entries) c.args.oid _ (line_is entries c.args.oid c.in-Some.line.now c.in-Some.ensures.value) in
-    subst (λ versions. OnOk c.all_seen.result (first_outside c.args.by.now versions ≡ None)) (c.deref.ensures.value ∙ ap (λ k. k.versions) (sym {A = Kept} here)) c.all_seen.ensures.seen
+    subst (λ versions. OnOk c.all_seen.result (first_outside c.args.by.now versions ≡ None)) (ap (λ k. k.versions) (sym {A = Kept} here)) c.all_seen.ensures.seen
 
 pub returns-in-Some-clause-first : goal.returns-in-Some-clause-first
 returns-in-Some-clause-first c =
     let entries = c.self.inside.lines.entries in
     let here : kept_of c.args.self.now c.args.oid ≡ kept_by c.in-Some.line.now =
     ap (λ t. kept_of t c.args.oid) (sym c.self.view_is) ∙ kept_at (lines_in entries) c.args.oid _ (line_is entries c.args.oid c.in-Some.line.now c.in-Some.ensures.value) in
-    subst (λ versions. IfErr c.all_seen.result (λ version. first_outside c.args.by.now versions ≡ Some version)) (c.deref.ensures.value ∙ ap (λ k. k.versions) (sym {A = Kept} here)) c.all_seen.ensures.first
+    subst (λ versions. IfErr c.all_seen.result (λ version. first_outside c.args.by.now versions ≡ Some version)) (ap (λ k. k.versions) (sym {A = Kept} here)) c.all_seen.ensures.first
 
 pub returns-in-None-clause-seen : goal.returns-in-None-clause-seen
 returns-in-None-clause-seen c =

@@ -1,8 +1,7 @@
-use Rattle.std.proofs.Common.{◌≡◌, ◌-◌, true, All, List, length, take, drop, ap, sym, ◌∙◌, subst, arith}
+use Rattle.std.proofs.Common.{◌≡◌, ◌-◌, List, length, take, drop, ap, sym, ◌∙◌, subst, arith}
 use Rattle.std.proofs.lemmas.List.{take_all, length-drop}
 use Rattle.walter_history.specs.declared.steps.Step.{Step}
-use Rattle.walter_history.specs.Rows.{sees_row}
-use Rattle.walter_history.specs.Steps.{told, AreBehind}
+use Rattle.walter_history.specs.Steps.{told, AreSeenBefore, AreBehind}
 use Rattle.walter_history.proofs.Linked.{are_behind}
 use Rattle.walter_history.proofs.steps.Steps.between.Goals as goal
 
@@ -13,7 +12,7 @@ returns c =
     let items = c.self.inside.items.items in
     let all = c.deref-2.result.now in
     let place = c.first_between-place.result in
-    let seen = subst (λ (ss : List Step). All (λ s. (sees_row from s.row ≡ true) × (sees_row to s.row ≡ true)) (take place ss)) c.deref.ensures.value c.first_between-place.ensures.seen in
+    let seen = subst (λ (ss : List Step). AreSeenBefore place from to ss) c.deref.ensures.value c.first_between-place.ensures.seen in
     let whole : take (length all - place) (drop place all) ≡ drop place items =
     take_all (length all - place) (drop place all) (omega (arith, length-drop place all)) ∙ ap (drop place) c.deref-2.ensures.value in
     subst (λ rows. AreBehind from to rows (told (take (length all - place) (drop place all)))) (ap (λ s. s.rows) c.self.view_is)
