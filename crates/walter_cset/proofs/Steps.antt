@@ -1,10 +1,10 @@
 -- Counts after more updates, and how far from 0 they can be.
-use Rattle.std.proofs.Common.{◌≡◌, ℕ, ◌+◌, ◌-◌, ◌^◌, ◌≤◌, ◌<◌, Bool, true, false, cond, List, [], ◌∷◌, ◌++◌, length, take, get_or, map, filter, ap, sym, ◌∙◌, arith}
-use Rattle.std.specs.Prelude.{pos, ◌+ℤ◌, ◌-ℤ◌, ◌≤ℤ◌, ◌<ℤ◌, count_by}
+use Rattle.std.proofs.Common.{◌≡◌, ℕ, ◌+◌, ◌-◌, ◌^◌, ◌≤◌, ◌<◌, true, false, cond, List, [], ◌∷◌, ◌++◌, length, take, get_or, map, filter, ap, sym, ◌∙◌, arith}
+use Rattle.std.specs.Prelude.{pos, ◌+ℤ◌, ◌-ℤ◌, ◌≤ℤ◌, ◌<ℤ◌}
 use Rattle.std.proofs.lemmas.Bool.{le-leb, leb-true, false_from_ne_true}
 use Rattle.std.proofs.lemmas.Int.{ints}
-use Rattle.std.proofs.lemmas.List.{map-append, append-nil, length-append, length-map, length-take-le, take_more}
-use Rattle.std.proofs.lemmas.List.Elements.{filter-append, filter_more}
+use Rattle.std.proofs.lemmas.List.{map-append, append-nil, length-map, length-take-le, take_more}
+use Rattle.std.proofs.lemmas.List.Elements.{filter_more}
 use Rattle.std.proofs.lemmas.List.Sums.{count_by-le-length, length-filter}
 use Rattle.walter_base.specs.declared.names.ObjId.{ObjId}
 use Rattle.walter_base.specs.declared.update.Row.{Row}
@@ -12,21 +12,7 @@ use Rattle.walter_base.specs.declared.update.Update.{Update}
 use Rattle.walter_base.specs.Values.{count_of, adds, takes}
 use Rattle.walter_base.specs.Vectors.{IsSeenBy}
 use Rattle.walter_history.specs.Rows.{sees_row, seen_updates}
-
-counted : {X : Type 0} (p : X → Bool) (xs ys : List X) → count_by p (xs ++ ys) ≡ count_by p xs + count_by p ys
-counted p xs ys =
-    let front = length-filter p xs in
-    let back = length-filter p ys in
-    let whole = length-filter p (xs ++ ys) in
-    let parts = ap length (filter-append p xs ys) ∙ length-append (filter p xs) (filter p ys) in
-    omega (arith, front, back, whole, parts)
-
--- the count after updates in two parts
-pub count-append : (oid : ObjId) (id : ℕ) (us vs : List Update) → count_of oid id (us ++ vs) ≡ count_of oid id us +ℤ count_of oid id vs
-count-append oid id us vs =
-    let more = counted (adds oid id) us vs in
-    let less = counted (takes oid id) us vs in
-    omega (arith, ints, more, less)
+use Rattle.walter_history.proofs.Standing.{count-append}
 
 -- a count is no further from 0 than there are updates
 pub low_count : (oid : ObjId) (id : ℕ) (updates : List Update) → (pos 0 -ℤ pos (length updates)) ≤ℤ count_of oid id updates

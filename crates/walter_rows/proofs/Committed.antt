@@ -8,7 +8,7 @@ use Rattle.walter_base.specs.declared.names.ObjId.{ObjId}
 use Rattle.walter_base.specs.declared.update.Update.{Update}
 use Rattle.walter_base.specs.Values.{count_of}
 use Rattle.walter_cset.specs.Totals.{Table as Totals, total_of}
-use Rattle.walter_cset.proofs.Steps.{count-append}
+use Rattle.walter_history.proofs.Standing.{count-append}
 use Rattle.walter_rows.specs.Rows.{seen_in, AreTotalsOf, SeesAlike}
 use Rattle.walter_rules.specs.declared.held.Held.{Held}
 use Rattle.walter_rules.specs.Log.{sees}

@@ -3,7 +3,7 @@ use Rattle.std.specs.Prelude.{None, ◌+ℤ◌}
 use Rattle.walter_base.specs.Values.{count_of}
 use Rattle.walter_base.proofs.ValuesFrom.{value_from-append}
 use Rattle.walter_cset.proofs.Numbers.{are_counts}
-use Rattle.walter_cset.proofs.Steps.{count-append}
+use Rattle.walter_history.proofs.Standing.{count-append}
 use Rattle.walter_overlay.proofs.laws.earlier_and_own.Goals as goal
 
 pub returns : goal.returns

@@ -1,6 +1,6 @@
 use Rattle.std.proofs.Common.{◌≤◌, ◌^◌, length, arith}
 use Rattle.std.proofs.lemmas.Int.{ints}
-use Rattle.walter_cset.proofs.Steps.{count-append}
+use Rattle.walter_history.proofs.Standing.{count-append}
 use Rattle.walter_history.specs.Lines.{kept_of}
 use Rattle.walter_rows.specs.Rows.{rows_in, seen_in}
 use Rattle.walter_rows.proofs.ReadRows.{count_held}

@@ -6,7 +6,7 @@ use Rattle.walter_base.proofs.Counted.{counts_are_one}
 use Rattle.walter_cset.specs.Tallies.{number_at}
 use Rattle.walter_cset.proofs.Moving.{count_stands, moved_within, moved_behind}
 use Rattle.walter_cset.proofs.Numbers.{are_counts}
-use Rattle.walter_cset.proofs.Steps.{count-append}
+use Rattle.walter_history.proofs.Standing.{count-append}
 use Rattle.std.proofs.lemmas.List.{length-map}
 use Rattle.walter_history.specs.declared.steps.Step.{Step}
 use Rattle.walter_history.specs.Steps.{told}
