@@ -1,3 +1,3 @@
 pub mod Reaches
 pub mod Moments
-pub mod Patching
+pub mod Tails

@@ -5,7 +5,7 @@ use Rattle.std.proofs.lemmas.List.{length-take-le}
 use Rattle.std.specs.Prelude.{nat_le}
 use Rattle.walter_disk.specs.Disks.{laid}
 use Rattle.walter_disk.specs.Images.{Torn, Follows, Narrows}
-use Rattle.walter_disk_memory.specs.Contents.{Call, Write, FailedWrite, Sync, Settle, Content, put, after, replayed, MayLeave}
+use Rattle.walter_disk_memory.specs.Contents.{Call, Write, FailedWrite, Sync, Settle, Content, put, after, replayed, settled, MayLeave}
 use Rattle.walter_disk_memory.specs.ImageLaws.{IsSound, settled_left, leaves_back}
 
 pub replayed_more : (calls : List Call) (call : Call) (content : Content) → replayed (calls ++ call ∷ []) content ≡ after call (replayed calls content)
@@ -36,6 +36,10 @@ sync_narrows content sound = λ image is. subst (MayLeave content) (sym is) soun
 
 pub settle_narrows : (choice : ℕ) (content : Content) → IsSound content → Narrows (MayLeave content) (MayLeave (after (Settle choice) content))
 settle_narrows choice content sound = λ image is. subst (MayLeave content) (sym is) (settled_left choice content sound)
+
+-- a settle's choice keeps what reads an image
+pub settled_sound : (choice : ℕ) (content : Content) → IsSound content → IsSound (record content { reads = settled choice content })
+settled_sound choice content sound = record { reads = settled_left choice content sound; whole = sound.whole }
 
 -- by what a call answered
 pub either : {T E A B P : Type 0} (r : Result T E) → OnOk r A → OnErr r B → (A → P) → (B → P) → P

@@ -4,6 +4,5 @@ pub mod ImageLaws
 pub mod MemoryDisks
 pub mod MemoryRacks
 pub mod Pasts
-pub mod Patches
 pub mod Rooms
 pub mod Stops

@@ -1,34 +1,36 @@
-ghost use Rattle.std.specs.Prelude.{◌≡◌, ◌+◌, ◌<◌, ◌≤◌, [], length, max, replicate, vec_len, vec_capacity, IfOk, OnOk, OnErr};
+ghost use Rattle.std.specs.Prelude.{◌≡◌, ◌+◌, ◌<◌, ◌≤◌, ◌++◌, [], length, max, take, replicate, vec_len, vec_capacity, IfOk, OnOk, OnErr};
 ghost use Rattle.walter_disk_memory.specs.Contents.{Write, FailedWrite, Sync, Settle, put, filled, at_rest, settled, after};
 ghost use Rattle.walter_disk_memory.specs.ImageLaws.{IsSound};
-ghost use Rattle.walter_disk_memory.specs.Patches.{AgreeOutside, levelled, patched};
 ghost use Rattle.walter_disk_memory.specs.Rooms.{reach};
 
 use crate::place::Place;
 use std::alloc::{AllocError, Global};
 use std::marker::Model;
 
-/// What a disk holds, and what pends on it. All bytes lie below `end`, up to which there is room.
+/// What a disk holds, and what pends on it. All bytes lie below `end`, up to which there is room. No write that pends
+/// begins within the first `shared` bytes: these are the same in what reads, in what the failed writes would have left
+/// too, and in what is safe. So they are held once, and of the latter two only the tails behind them.
 #[derive(Drop)]
 pub(crate) struct Content {
     reads: Vec<u8>,
-    whole: Vec<u8>,
-    synced: Vec<u8>,
+    shared: usize,
+    whole_tail: Vec<u8>,
+    synced_tail: Vec<u8>,
     pending: Vec<Place>,
     end: usize,
 }
 
 impl Model for Content {
-    ghost use Rattle.std.specs.Prelude.{◌≡◌, ◌-◌, ◌≤◌, vec_len, vec_capacity};
-    ghost use Rattle.walter_disk_memory.specs.Rooms.{Held, reach};
+    ghost use Rattle.std.specs.Prelude.{◌≡◌, ◌+◌, ◌-◌, ◌≤◌, ◌++◌, take, vec_len, vec_capacity};
+    ghost use Rattle.walter_disk_memory.specs.Rooms.{Held, reach, start};
 
     ghost Value = { Held };
 
     ghost view = { λ s. record {
       content = record {
         reads = s.reads.items;
-        whole = s.whole.items;
-        synced = s.synced.items;
+        whole = take s.shared s.reads.items ++ s.whole_tail.items;
+        synced = take s.shared s.reads.items ++ s.synced_tail.items;
         pending = s.pending.items;
       };
       end = s.end;
@@ -37,8 +39,9 @@ impl Model for Content {
 
     ghost invariant = { λ s.
         (vec_len s.reads ≤ s.end) × (s.end ≤ vec_capacity s.reads)
-        × (vec_len s.whole ≤ s.end) × (s.end ≤ vec_capacity s.whole)
-        × (vec_len s.synced ≤ s.end) × (s.end ≤ vec_capacity s.synced)
+        × (s.shared + vec_len s.whole_tail ≤ s.end) × (s.end ≤ vec_capacity s.whole_tail)
+        × (s.shared + vec_len s.synced_tail ≤ s.end) × (s.end ≤ vec_capacity s.synced_tail)
+        × (s.shared ≤ vec_len s.reads) × (s.shared ≤ start s.end s.pending.items)
         × (reach s.pending.items ≤ s.end) };
 }
 
@@ -48,8 +51,9 @@ impl Content {
     {
         Content {
             reads: Vec::new(alloc),
-            whole: Vec::new(alloc),
-            synced: Vec::new(alloc),
+            shared: 0,
+            whole_tail: Vec::new(alloc),
+            synced_tail: Vec::new(alloc),
             pending: Vec::new(alloc),
             end: 0,
         }
@@ -59,12 +63,14 @@ impl Content {
         ensures { IfOk result (λ made.
             made ≡ record { content = at_rest bytes.items; end = vec_len bytes; slots = 0 }) }
     {
+        let end = bytes.len();
         Ok(Content {
-            whole: bytes.to_vec(alloc)?,
-            synced: bytes.to_vec(alloc)?,
-            pending: Vec::new(alloc),
-            end: bytes.len(),
             reads: bytes,
+            shared: end,
+            whole_tail: Vec::with_capacity(alloc, end)?,
+            synced_tail: Vec::with_capacity(alloc, end)?,
+            pending: Vec::new(alloc),
+            end,
         })
     }
 
@@ -80,6 +86,7 @@ impl Content {
         self.end
     }
 
+    #[tactic(auto, using(crate::proofs::Tails::start_further))]
     pub(crate) fn reserve(&mut self, end: usize, slots: usize) -> Result<(), AllocError>
         ensures same { self.new.content ≡ self.old.content }
         ensures slots { self.old.slots ≤ self.new.slots }
@@ -89,15 +96,15 @@ impl Content {
     {
         let end = self.end.max(end);
         self.reads.reserve(end - self.reads.len())?;
-        self.whole.reserve(end - self.whole.len())?;
-        self.synced.reserve(end - self.synced.len())?;
+        make_room(&mut self.whole_tail, end)?;
+        make_room(&mut self.synced_tail, end)?;
         self.pending.reserve(slots)?;
         self.end = end;
         Ok(())
     }
 
     /// A write that reaches the disk.
-    #[tactic(auto, using(crate::proofs::Reaches::reach_more))]
+    #[tactic(auto, using(crate::proofs::Tails::writes))]
     pub(crate) fn write(&mut self, at: usize, from: &[u8])
         requires within { at + length from.now ≤ self.old.end }
         requires slot { 0 < self.old.slots }
@@ -105,16 +112,13 @@ impl Content {
         ensures end { self.new.end ≡ self.old.end }
         ensures slots { self.new.slots + 1 ≡ self.old.slots }
     {
+        self.miss(at, from);
+        // From this place on no byte is shared any more, so only what reads changes.
         write_over(&mut self.reads, at, from);
-        write_over(&mut self.whole, at, from);
-        self.pending.push_reserved(Place {
-            at,
-            count: from.len(),
-        });
     }
 
     /// A write that fails.
-    #[tactic(auto, using(crate::proofs::Reaches::reach_more))]
+    #[tactic(auto, using(crate::proofs::Tails::writes))]
     pub(crate) fn miss(&mut self, at: usize, from: &[u8])
         requires within { at + length from.now ≤ self.old.end }
         requires slot { 0 < self.old.slots }
@@ -122,26 +126,30 @@ impl Content {
         ensures end { self.new.end ≡ self.old.end }
         ensures slots { self.new.slots + 1 ≡ self.old.slots }
     {
-        write_over(&mut self.whole, at, from);
+        let shared = self.shared.min(at);
+        put_before(&mut self.whole_tail, &self.reads[shared..self.shared]);
+        put_before(&mut self.synced_tail, &self.reads[shared..self.shared]);
+        self.shared = shared;
+        write_over(&mut self.whole_tail, at - shared, from);
         self.pending.push_reserved(Place {
             at,
             count: from.len(),
         });
     }
 
-    #[tactic(auto, using(crate::proofs::Patching::whole_agrees, crate::proofs::Patching::synced_agrees))]
     pub(crate) fn sync(&mut self)
         requires sound { IsSound self.old.content }
         ensures content { self.new.content ≡ after Sync self.old.content }
         ensures end { self.new.end ≡ self.old.end }
         ensures slots { self.old.slots ≤ self.new.slots }
     {
-        copy_places(&mut self.whole, &self.reads, &self.pending);
-        copy_places(&mut self.synced, &self.reads, &self.pending);
+        self.shared = self.reads.len();
+        self.whole_tail.clear();
+        self.synced_tail.clear();
         self.pending.clear();
     }
 
-    #[tactic(auto, using(crate::proofs::Patching::settled_sound))]
+    #[tactic(auto, using(crate::proofs::Moments::settled_sound))]
     pub(crate) fn settle(&mut self, choice: u64)
         requires sound { IsSound self.old.content }
         ensures content { self.new.content ≡ after (Settle choice) self.old.content }
@@ -153,60 +161,60 @@ impl Content {
     }
 
     // What reads is what the choice finds. It still pends.
-    #[tactic(auto, using(crate::proofs::Patching::reads_agrees, crate::proofs::Patching::reads_agrees_whole))]
+    #[tactic(auto, using(crate::proofs::Tails::writes))]
     fn choose(&mut self, choice: u64)
-        requires sound { IsSound self.old.content }
         ensures content { self.new.content ≡ record self.old.content { reads = settled choice self.old.content } }
         ensures end { self.new.end ≡ self.old.end }
         ensures slots { self.new.slots ≡ self.old.slots }
     {
         match choice {
-            0 => copy_places(&mut self.reads, &self.synced, &self.pending),
-            1 => copy_places(&mut self.reads, &self.whole, &self.pending),
+            0 => replace_tail(&mut self.reads, self.shared, &self.synced_tail),
+            1 => replace_tail(&mut self.reads, self.shared, &self.whole_tail),
             _ => {
-                copy_places(&mut self.reads, &self.synced, &self.pending);
+                replace_tail(&mut self.reads, self.shared, &self.synced_tail);
                 fill_places(&mut self.reads, &self.pending, (choice % 256) as u8);
             }
         }
     }
 }
 
-// Makes the bytes the same as others, from which they differ at these places alone. It costs what these hold.
-#[tactic(auto, using(crate::proofs::Patching::patched_agrees))]
-fn copy_places(bytes: &mut Vec<u8>, from: &[u8], places: &[Place])
-    requires room { length from.now ≤ vec_capacity bytes.old }
-    requires agree { AgreeOutside places.now bytes.old.items from.now }
-    ensures items { bytes.new.items ≡ from.now }
+// Makes room for bytes up to an end. Where there are none the block is replaced: to grow it might copy all that it has
+// room for.
+fn make_room(bytes: &mut Vec<u8>, end: usize) -> Result<(), AllocError>
+    requires { vec_len bytes.old ≤ end }
+    ensures items { bytes.new.items ≡ bytes.old.items }
+    ensures ok { OnOk result (end ≤ vec_capacity bytes.new) }
     ensures capacity { vec_capacity bytes.old ≤ vec_capacity bytes.new }
 {
-    level(bytes, from);
-    for place in places {
-        patch(bytes, from, *place);
+    let room = bytes.capacity();
+    if end <= room || !bytes.is_empty() {
+        return bytes.reserve(end - bytes.len());
     }
+    *bytes = Vec::with_capacity(*bytes.allocator(), end.max(room.saturating_mul(2)))?;
+    Ok(())
 }
 
 // Takes no memory.
-fn level(bytes: &mut Vec<u8>, from: &[u8])
-    requires { length from.now ≤ vec_capacity bytes.old }
-    ensures items { bytes.new.items ≡ levelled from.now bytes.old.items }
+fn put_before(bytes: &mut Vec<u8>, before: &[u8])
+    requires { length before.now + vec_len bytes.old ≤ vec_capacity bytes.old }
+    ensures items { bytes.new.items ≡ before.now ++ bytes.old.items }
+    ensures len { vec_len bytes.new ≡ length before.now + vec_len bytes.old }
     ensures capacity { vec_capacity bytes.old ≤ vec_capacity bytes.new }
 {
-    bytes.truncate(from.len());
-    let front = bytes.len();
-    bytes.extend_from_slice(&from[front..]).unwrap();
+    let count = bytes.len();
+    bytes.extend_from_slice(before).unwrap();
+    bytes.rotate_left(count);
 }
 
-fn patch(bytes: &mut Vec<u8>, from: &[u8], place: Place)
-    requires { length from.now ≡ vec_len bytes.old }
-    ensures items { bytes.new.items ≡ patched from.now place bytes.old.items }
-    ensures len { vec_len bytes.new ≡ vec_len bytes.old }
+// Takes no memory.
+fn replace_tail(bytes: &mut Vec<u8>, at: usize, tail: &[u8])
+    requires { at + length tail.now ≤ vec_capacity bytes.old }
+    ensures items { bytes.new.items ≡ take at bytes.old.items ++ tail.now }
+    ensures len { vec_len bytes.new ≤ at + length tail.now }
     ensures capacity { vec_capacity bytes.old ≤ vec_capacity bytes.new }
 {
-    if place.at > bytes.len() {
-        return;
-    }
-    let end = place.at + place.count.min(bytes.len() - place.at);
-    bytes[place.at..end].copy_from_slice(&from[place.at..end]);
+    bytes.truncate(at);
+    bytes.extend_from_slice(tail).unwrap();
 }
 
 // Takes no memory.
