@@ -1,4 +1,5 @@
-ghost use Rattle.std.specs.Prelude.{◌≡◌, ◌≢◌, ◌+◌, ◌≤◌, length, vec_len, true, false, Ok, IfOk, IfErr, OnOk, OnErr};
+ghost use Rattle.std.specs.Prelude.{◌≡◌, ◌≢◌, ◌+◌, ◌≤◌, length, vec_len, vec_capacity};
+ghost use Rattle.std.specs.Prelude.{true, false, Ok, IfOk, IfErr, OnOk, OnErr};
 ghost use Rattle.walter_conn.specs.Calls.{fresh_incoming, Answers};
 ghost use Rattle.walter_conn.specs.Frames.{frame, Call};
 ghost use Rattle.walter_conn.specs.Inputs.{held_by, body_of};
@@ -27,7 +28,8 @@ pub struct Conn<S: Source + Drop, K: Sink + Drop> {
     state: State,
     // A whole frame is held, since there was no memory for the bytes of its Write.
     whole: bool,
-    ghost room: { vec_len input.buffer ≡ 65540 },
+    ghost room: { 65540 ≤ vec_capacity input.buffer },
+    ghost made: { input.held ≤ vec_len input.buffer },
     ghost output_room: { length output.bytes + output.room ≡ 65540 },
     ghost begun: { whole ≡ true → 4 ≤ input.held },
     ghost within: { whole ≡ true → input.held ≤ 65540 },
@@ -35,17 +37,11 @@ pub struct Conn<S: Source + Drop, K: Sink + Drop> {
     ghost none: { state ≡ Open → whole ≡ false → input.held ≡ 0 },
 }
 
-// The number of bytes is an argument, so that no proof counts them.
-fn zeros(alloc: Global, count: usize) -> Mem<Vec<u8>>
-    ensures { IfOk result (λ bytes. vec_len bytes ≡ count) }
-{
-    Ok(vec![in alloc; 0; count]?)
-}
-
 impl<S: Source + Drop, K: Sink + Drop> Conn<S, K> {
     ghost use Rattle.walter_conn.specs.Connections.{source_of, sink_of, incoming, holds_frame, HoldsWrite};
 
-    /// Takes the memory for a frame of the client, and for one to it. Where there is none, the source and the sink come back.
+    /// Reserves the memory for a frame of the client, and for one to it: no byte is made before it is needed. Where
+    /// there is none, the source and the sink come back.
     pub fn new(alloc: Global, source: S, sink: K) -> Result<Conn<S, K>, (S, K)>
         ensures incoming { IfOk result (λ conn.
             incoming conn ≡ fresh_incoming (S.left source) (S.faults source)) }
@@ -53,7 +49,7 @@ impl<S: Source + Drop, K: Sink + Drop> Conn<S, K> {
         ensures sink { IfOk result (λ conn. sink_of conn ≡ sink) }
         ensures back { IfErr result (λ parts. (parts.0 ≡ source) × (parts.1 ≡ sink)) }
     {
-        let Ok(buffer) = zeros(alloc, LONGEST + 4) else {
+        let Ok(buffer) = Vec::with_capacity(alloc, LONGEST + 4) else {
             return Err((source, sink));
         };
         let Ok(output) = Appender::with_room(alloc, LONGEST + 4) else {

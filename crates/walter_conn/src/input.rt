@@ -1,4 +1,5 @@
-ghost use Rattle.std.specs.Prelude.{◌≡◌, ◌+◌, ◌<◌, ◌≤◌, [], take, vec_len, true, false, Ok, OnOk, OnErr};
+ghost use Rattle.std.specs.Prelude.{◌≡◌, ◌+◌, ◌-◌, ◌<◌, ◌≤◌, [], ◌++◌, take, replicate, vec_len, vec_capacity};
+ghost use Rattle.std.specs.Prelude.{true, false, Ok, OnOk, OnErr};
 ghost use Rattle.walter_fields.specs.Spellings.{number_spelled};
 ghost use Rattle.walter_stream.specs.Streams.{AtEnd};
 ghost use Rattle.walter_conn.specs.Frames.{EndsInFrame, IsTooLong};
@@ -26,9 +27,24 @@ pub(crate) enum Arrival {
 #[derive(Drop)]
 pub(crate) struct FrameInput<S: Source + Drop> {
     pub source: S,
+    // It has room for the longest frame. Its bytes are made as far as the longest frame so far, so that a client of
+    // short frames touches little of it: behind those that are held an earlier frame's may stand.
     pub buffer: Vec<u8>,
     // How many bytes of the buffer are held.
     pub held: usize,
+}
+
+// Makes the bytes up to this count that aren't there, which takes no memory. What is there stays, so that no byte is
+// cleared twice.
+fn make_up_to(buffer: &mut Vec<u8>, count: usize)
+    requires { count ≤ vec_capacity buffer.old }
+    ensures items { buffer.new.items ≡ buffer.old.items ++ replicate (count - vec_len buffer.old) 0 }
+    ensures made { count ≤ vec_len buffer.new }
+    ensures room { vec_capacity buffer.old ≤ vec_capacity buffer.new }
+{
+    if buffer.len() < count {
+        buffer.resize(count, 0).unwrap();
+    }
 }
 
 impl<S: Source + Drop> FrameInput<S> {
@@ -51,10 +67,12 @@ impl<S: Source + Drop> FrameInput<S> {
 
     // Reads until so many bytes are held, and answers whether they are: the source may end before.
     fn fill(&mut self, wanted: usize) -> Result<bool, Failed>
-        requires room { vec_len self.old.buffer ≡ 65540 }
+        requires room { 65540 ≤ vec_capacity self.old.buffer }
+        requires made { self.old.held ≤ vec_len self.old.buffer }
         requires wanted { wanted ≤ 65540 }
         requires within { self.old.held ≤ wanted }
-        ensures room { vec_len self.new.buffer ≡ 65540 }
+        ensures room { 65540 ≤ vec_capacity self.new.buffer }
+        ensures made { self.new.held ≤ vec_len self.new.buffer }
         ensures within { self.new.held ≤ wanted }
         ensures grows { self.old.held ≤ self.new.held }
         ensures kept { take self.old.held self.new.buffer.items ≡ held_by self.old }
@@ -65,6 +83,7 @@ impl<S: Source + Drop> FrameInput<S> {
         ensures faultless { OnOk result (S.faults self.new.source ≡ S.faults self.old.source) }
         ensures cause { OnErr result (S.faults self.old.source < S.faults self.new.source) }
     {
+        make_up_to(&mut self.buffer, wanted);
         while self.held < wanted {
             let count = self.source.read(&mut self.buffer[self.held..wanted])?;
             if count == 0 {
@@ -77,7 +96,7 @@ impl<S: Source + Drop> FrameInput<S> {
 
     // The length that the first four bytes spell.
     fn length(&self) -> u32
-        requires room { vec_len self.now.buffer ≡ 65540 }
+        requires { 4 ≤ vec_len self.now.buffer }
         ensures { take 4 self.now.buffer.items ≡ number_spelled 4 result }
     {
         Cursor::new(&self.buffer[..4]).u32().unwrap()
@@ -85,9 +104,10 @@ impl<S: Source + Drop> FrameInput<S> {
 
     /// Reads the next frame.
     pub(crate) fn arrive(&mut self) -> Result<Arrival, Failed>
-        requires room { vec_len self.old.buffer ≡ 65540 }
+        requires room { 65540 ≤ vec_capacity self.old.buffer }
         requires none { self.old.held ≡ 0 }
-        ensures room { vec_len self.new.buffer ≡ 65540 }
+        ensures room { 65540 ≤ vec_capacity self.new.buffer }
+        ensures made { self.new.held ≤ vec_len self.new.buffer }
         ensures unread { unread_by S.left self.new ≡ unread_by S.left self.old }
         ensures frame { result ≡ Ok Arrival.Frame → HoldsFrame self.new }
         ensures too_long { result ≡ Ok Arrival.TooLong → IsTooLong (held_by self.new) }
@@ -116,7 +136,7 @@ impl<S: Source + Drop> FrameInput<S> {
 
     /// The body of the frame that is held.
     pub(crate) fn body(&self) -> &[u8]
-        requires room { vec_len self.now.buffer ≡ 65540 }
+        requires made { self.now.held ≤ vec_len self.now.buffer }
         requires frame { HoldsFrame self.now }
         ensures { result.now ≡ body_of self.now }
     {

@@ -10,7 +10,7 @@ returns-then-not-branch-2-clause-cut g c =
     let count = c.length-length.result in
     let four : c.fill.new.self.held ≡ 4 = c.fill.ensures.full (cc) in
     let short : now.held < 4 + count = c.fill-2.ensures.short (cc) in
-    let long : now.held ≤ length now.buffer.items = omega (arith, c.fill-2.ensures.room) in
+    let long : now.held ≤ length now.buffer.items = omega (arith, c.fill-2.ensures.made) in
     let first = first_kept _ c.fill.new.self.buffer.items now.buffer.items _ four c.fill-2.ensures.kept c.length-length.ensures in
     let begun = IsBegun-cut now.held count now.buffer.items (omega (arith, c.fill-2.ensures.grows)) short (omega arith) long first in
     λ _. subst EndsInFrame (c.fill-2.ensures.unread ∙ c.fill.ensures.unread) (EndsInFrame-unread (g.S.Source.left now.source) (held_by now) begun (c.fill-2.ensures.end (cc)))
@@ -21,7 +21,7 @@ returns-clause-frame g c =
     let count = c.length-length.result in
     let four : c.fill.new.self.held ≡ 4 = c.fill.ensures.full (cc) in
     let full : now.held ≡ 4 + count = c.fill-2.ensures.full (cc) in
-    let long : now.held ≤ length now.buffer.items = omega (arith, c.fill-2.ensures.room) in
+    let long : now.held ≤ length now.buffer.items = omega (arith, c.fill-2.ensures.made) in
     let first = first_kept _ c.fill.new.self.buffer.items now.buffer.items _ four c.fill-2.ensures.kept c.length-length.ensures in
     λ _. record {
       begun = omega (arith, full);

@@ -11,10 +11,11 @@ loop-self-preserved g c =
     let bytes = c.deref_mut.result.now in
     let fits : read.count ≤ length c.read.new.into = omega (arith, read.ensures.within, c.read.auto.into) in
     let counted : was.held + read.count ≤ c.args.wanted = grind (arith, common_steps, read.ensures.within) in
-    let long : was.held ≤ length bytes = omega (arith, c.deref_mut.ensures.len, inv.room) in
-    let filled = take-filled was.buffer.len was.held read.count bytes c.read.new.into _ _ long fits (omega (arith, counted, inv.room)) in
+    let long : was.held ≤ length bytes = omega (arith, c.deref_mut.ensures.len, inv.made, inv.within) in
+    let filled = take-filled was.buffer.len was.held read.count bytes c.read.new.into _ _ long fits (omega (arith, counted, inv.made)) in
     record {
       room = inv.room;
+      made = inv.made;
       within = counted;
       grows = omega (arith, inv.grows);
       kept = take-kept c.args.self.now.held was.held read.count _ bytes (take read.count c.read.new.into) inv.grows long filled
