@@ -15,16 +15,16 @@ took, in the first half and in the second; the bytes of the journal in the end, 
 ever written for records and packs. Of two areas a restart writes a pack of all records, and the journal doesn't grow by it.
 
 With --memory it measures how much memory a run takes beside its trail: 90,000 events of one site over a hundred objects, with a
-Tick at each 100th. No program tells what its trail takes, so that is made up of two things:
+Tick at each 100th. What the trail takes is made up of two things:
 
-- What a run grows by for each event that is the same but for the commits, each of which is an abort there: its entries are alike,
-  and nothing is kept but these. The report is taken off. It is the growth from half of the events to all, over the same input, so
-  that neither the program nor the scenario counts.
-- The bytes of the records that the committing run's entries have besides, as docs/FORMATS.md spells them. In memory they take
-  more, so the trail may take more than is told, and the ratio is rather too high.
+- What its list takes, by a run that is the same but for the commits, each of which is an abort there: its entries are alike, and
+  nothing is kept but these. What they own is taken off, and the report.
+- What the entries own, as records and replies: the small pieces on the heap when the program begins to write, which has let go of
+  all but the trails by then (bench/pieces.py).
 
-The run is to grow by 1.5 times as much for each event at most. That has the journal, the rows, the list of what is committed and
-the report. The most memory of the whole runs is told too, where input and program count on both sides.
+Each is the growth from half of the events to all, over the same input, so that neither the program nor the scenario counts. The
+run is to grow by 1.5 times as much for each event at most. That has the journal, the rows, the list of what is committed and the
+report. Of a program that keeps its tables while it writes, this says less than it is.
 
 With --example it plays nothing, and writes one of the two big examples. Both are made so, and the scripts beside them:
 
@@ -55,6 +55,7 @@ from generator import ABORT as ABORT_IT, COMMIT as COMMIT_IT
 from loads import load_words
 from measured import events_of, measured, measured_of, microseconds
 from model import WINDOW
+from pieces import bytes_in_pieces
 
 CLIENTS = 10
 SITES = 3
@@ -331,45 +332,42 @@ def commits_in(run):
     return int(re.search(r"^site 0 .* records (\d+) ", run.written, re.M)[1]) - 1
 
 
-def size_of_own():
-    """How many bytes the record of a commit has, in the middle of a write and an add."""
-    updates = (model.WRITE, (1, 1), bytes(8)), (model.SET_ADD, (2, 1), 1)
-    return sum(len(model.record_of((model.OWN, 1, model.Tx((0, 1, 1), 0, (0,), (update,))))) for update in updates) / 2
-
-
-def runs_of(command, end, events):
-    """A run without an event behind the first, one of half of the events, and one of all, over the same input."""
+def texts_of(end, events):
+    """A scenario without an event behind the first, one of half of the events, and one of all, over the same input."""
     made = kinds.many_objects(events, end)
-    return [measured_of([*command, "play"], kinds.text_of(kinds.quiet_behind(made, count))) for count in (1, events // 2, events)]
+    return [kinds.text_of(kinds.quiet_behind(made, count)) for count in (1, events // 2, events)]
+
+
+class Growing:
+    """Three runs of a program, whose transactions all end by this call, and what it grows by for each event of the second half."""
+
+    def __init__(self, command, end, events):
+        texts, count = texts_of(end, events), events - events // 2
+        self.none, self.half, self.whole = (measured_of([*command, "play"], text) for text in texts)
+        pieces = [bytes_in_pieces([*command, "play"], text) for text in texts[1:]]
+        self.bytes = (self.whole.megabytes - self.half.megabytes) * 1_000_000 / count
+        self.report = (len(self.whole.written) - len(self.half.written)) / count
+        self.pieces = (pieces[1] - pieces[0]) / count
 
 
 def memory_lines(command, events):
     """The lines that tell of the memory of a run beside its trail."""
-    count = events - events // 2
-
-    def by_event(half, whole):
-        return (whole.megabytes - half.megabytes) * 1_000_000 / count
-
-    (none, *committing), (_, *aborting) = (runs_of(command, end, events) for end in (COMMIT_IT, ABORT_IT))
-    report = sum(sign * len(run.written) for sign, run in zip((-1, 1), aborting)) / count
-    commits = [commits_in(run) for run in committing]
-    records = (commits[1] - commits[0]) * size_of_own() / count
-    grown, alike = by_event(*committing), by_event(*aborting)
-    trail = alike - report + records
-    yield (f"one site, {events:,} events over {len(kinds.OBJECTS)} objects, {commits[1]:,} commits, a Tick at each {kinds.EVERY}th "
-           "event")
-    yield f"the input alone: {none.megabytes:.1f} MB"
-    yield f"the run: {committing[1].megabytes:.1f} MB, {grown:.0f} bytes for each event of its second half"
-    yield (f"with aborts in the place of commits: {aborting[1].megabytes:.1f} MB, {alike:.0f} bytes for each, of which "
-           f"{report:.0f} are the report's")
-    yield f"the records that these lack: {records:.0f} bytes for each"
-    if trail <= 0 or aborting[0].megabytes < 1.02 * none.megabytes:
+    committing, aborting = (Growing(command, end, events) for end in (COMMIT_IT, ABORT_IT))
+    listed = aborting.bytes - aborting.report - aborting.pieces
+    trail = listed + committing.pieces
+    yield (f"one site, {events:,} events over {len(kinds.OBJECTS)} objects, {commits_in(committing.whole):,} commits, a Tick at "
+           f"each {kinds.EVERY}th event")
+    yield f"the input alone: {committing.none.megabytes:.1f} MB"
+    yield f"the run: {committing.whole.megabytes:.1f} MB, {committing.bytes:.0f} bytes for each event of its second half"
+    yield (f"with aborts in the place of commits: {aborting.whole.megabytes:.1f} MB, {aborting.bytes:.0f} bytes for each, of which "
+           f"{aborting.report:.0f} are the report's and {aborting.pieces:.0f} what entries own")
+    yield f"what the entries of the run own: {committing.pieces:.0f} bytes for each"
+    if listed <= 0 or aborting.half.megabytes < 1.02 * committing.none.megabytes:
         yield "what the trail takes isn't told: half of these events take no more than the input did before them"
         return
-    yield (f"so the trail takes {trail:.0f} bytes for each, and the run {grown / trail:.2f} times that: "
-           f"{'within' if grown <= MOST_TIMES * trail else 'above'} {MOST_TIMES}")
-    whole = aborting[1].megabytes + commits[1] * size_of_own() / 1_000_000
-    yield f"in all the run takes {committing[1].megabytes / whole:.2f} times what the one with aborts and the records take"
+    times = committing.bytes / trail
+    yield (f"so the trail takes {trail:.0f} bytes for each, and the run {times:.2f} times that: "
+           f"{'within' if times <= MOST_TIMES else 'above'} {MOST_TIMES}")
 
 
 # The command
