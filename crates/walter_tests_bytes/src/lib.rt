@@ -2,8 +2,6 @@
 #![tactic(auto)]
 
 #[cfg(test)]
-mod any_bytes;
-#[cfg(test)]
 mod fields;
 #[cfg(test)]
 mod made;
