@@ -4,11 +4,11 @@
 They are those of generator.py: of one site and of several, over journals of one area and of two, some by a link, one of
 eleven with transactions that stay open while rows may be folded, one of fourteen made to come to a limit; with --several those
 of two to eight sites alone, as many as are asked for. Where the program refuses the key `areas`, and with --one-area, none has
-it. Says how often each reply, reason of a refusal, outcome, record and packet was met, what the pumps did and the link chose,
-what restarts did with areas, what folds would have met, and each limit, with a number at it and with one above it; and which of
-these were not met. Then some made scenarios of the command `load` are played, and their
-summaries compared. Ends with status 1 where a scenario differs, and prints its seed and the first line that does. With
---unproved the program is run without any proof, by `rt try`, on all scenarios together but those of `load`, and what this says
+it; nor `room` where the program refuses that. Says how often each reply, reason of a refusal, outcome, record and packet was
+met, what the pumps did and the link chose, what restarts did with areas, what folds would have met, and each limit, with a
+number at it and with one above it; and which of these were not met. Then some made scenarios of the command `load` are played,
+and their summaries compared. Ends with status 1 where a scenario differs, and prints its seed and the first line that does.
+With --unproved the program is run without any proof, by `rt try`, on all scenarios together but those of `load`, and what this says
 of each that differs is printed; with --model the model plays alone, and nothing is compared.
 """
 
@@ -126,7 +126,7 @@ def first_difference(played, expected):
 
 
 EMPTY = {"sites": 1, "f": 0, "containers": [], "clients": [], "steps": []}
-NO_AREAS = "the program refuses the key areas: no scenario has it"
+NO_KEY = "the program refuses the key {}: no scenario has it"
 
 
 def built():
@@ -137,9 +137,9 @@ def built():
     return os.path.join(TOP, "crates", "walter", "out", "walter")
 
 
-def knows_areas(program):
-    """Whether a program takes the key `areas`."""
-    made = json.dumps({**EMPTY, "areas": 1})
+def knows(program, key):
+    """Whether a program takes the key, with the value 1."""
+    made = json.dumps({**EMPTY, key: 1})
     return subprocess.run([program, "play"], input=made, capture_output=True, text=True).returncode == 0
 
 
@@ -177,10 +177,10 @@ def compare_unproved(folder, count):
         sys.exit("\n".join(line for line in tried.stdout.splitlines() if "output=expected" not in line))
 
 
-def made_from(first, count, several, areas=True):
-    """So many seeds from the first on, each with its scenario; of several sites alone, or without areas, where that is asked
-    for."""
-    all_made = ((seed, scenario(seed, areas)) for seed in itertools.count(first))
+def made_from(first, count, several, areas=True, room=True):
+    """So many seeds from the first on, each with its scenario; of several sites alone, or without areas or room, where that is
+    asked for."""
+    all_made = ((seed, scenario(seed, areas, room)) for seed in itertools.count(first))
     return itertools.islice((one for one in all_made if one[1]["sites"] > 1 or not several), count)
 
 
@@ -199,12 +199,14 @@ def main():
     parser.add_argument("--model", action="store_true", help="play the model alone")
     words = parser.parse_args()
     program = None if words.model or words.unproved else words.program or built()
-    areas = not words.one_area and (program is None or knows_areas(program))
-    if not areas and not words.one_area:
-        print(NO_AREAS)
+    areas, room = (program is None or knows(program, key) for key in ("areas", "room"))
+    for key, known in ("areas", areas or words.one_area), ("room", room):
+        if not known:
+            print(NO_KEY.format(key))
+    areas = areas and not words.one_area
     met = Counter()
     with tempfile.TemporaryDirectory() as folder:
-        for seed, made in made_from(words.seed, words.scenarios, words.several, areas):
+        for seed, made in made_from(words.seed, words.scenarios, words.several, areas, room):
             run = folds.played(made, met)
             if program:
                 compare([program, "play", "--trace"], f"seed {seed}", json.dumps(made), run.text())

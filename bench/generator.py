@@ -597,6 +597,13 @@ def many_ticks(rng):
     return made if ticks == 100 else {**made, "ticks": ticks}
 
 
+def room_of(seed):
+    """For how many entries the trails of a seed's scenario have their memory from the start: it may be absent. It is drawn
+    apart, so that all else in the scenario is the same whether programs take the key or not."""
+    room = random.Random(f"room {seed}").choice([None, None, 0, 1, 20, readings.MOST_ROOM])
+    return {} if room is None else {"room": room}
+
+
 # The kinds, by seed
 
 AT_LIMIT = [many_open, many_updates, many_bytes, many_ids, long_value, long_frame, full_lane, full_window, many_ticks]
@@ -614,8 +621,8 @@ def kind_of(seed):
     return BY_SEED[seed % len(BY_SEED)]
 
 
-def scenario(seed, areas=True):
-    """The scenario of a seed; where no areas are asked for none has the key `areas`."""
+def scenario(seed, areas=True, room=True):
+    """The scenario of a seed; where no areas are asked for none has the key `areas`, and so of `room`."""
     rng, kind = random.Random(seed), kind_of(seed)
     if kind in FOLDED:
         made = folded(rng, kind, areas)
@@ -624,4 +631,5 @@ def scenario(seed, areas=True):
         made.update(areas_of(rng, made) if areas else {})
     else:
         made = several(rng, kind, areas)
-    return fitted(rng, made) if kind and rng.random() < 0.25 else made
+    made = fitted(rng, made) if kind and rng.random() < 0.25 else made
+    return {**made, **(room_of(seed) if room else {})}

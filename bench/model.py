@@ -6,7 +6,7 @@ from these, and after a stop it learns all its records again. It takes scenarios
 and command.py is the command over both. What the step `pump` takes, and in which order, is drawn by link.py, and loads.py makes
 the scenarios of the command `load`. The key `areas` of a scenario, which is 1 where it is absent, says how many areas each
 journal has: with 2 a restart packs what it has read before it writes its Boot, as disks.py and journals.py tell. The model
-doesn't know want of memory, or the end of a trail at 100,000 entries.
+doesn't know want of memory, so the key `room` changes nothing here, or the end of a trail at 100,000 entries.
 """
 
 import struct

@@ -12,16 +12,17 @@ import journals
 MOST_BYTES, MOST_DEPTH = 16_777_216, 127
 MOST_SITES, MOST_CONTAINERS, MOST_CLIENTS = 8, 256, 1024
 LEAST_CAPACITY, CAPACITY, MOST_CAPACITY = 19, 16_777_216, 1_099_511_627_776
-MOST_RATE, MOST_TICKS, MOST_THREADS = 1000, 10_000, 32
+MOST_ROOM, MOST_RATE, MOST_TICKS, MOST_THREADS = 100_000, 1000, 10_000, 32
 MOST_CALL, MOST_PACKET = 1_000_000, (1 << 32) - 1
-NEEDED, BESIDES = ("sites", "f", "containers", "clients", "steps"), ("capacity", "areas", "link", "ticks", "threads", "arms")
+NEEDED = ("sites", "f", "containers", "clients", "steps")
+BESIDES = ("capacity", "areas", "room", "link", "ticks", "threads", "arms")
 RATES = ("lose", "repeat", "swap")
 
 TEXTS = {
     "long": f"the text: wants at most {MOST_BYTES} bytes",
     "json": "the text: wants JSON in UTF-8, an object outermost",
-    "keys": "the keys: wants sites, f, containers, clients and steps, and takes capacity, areas, link, ticks, threads and "
-            "arms besides",
+    "keys": "the keys: wants sites, f, containers, clients and steps, and takes capacity, areas, room, link, ticks, threads "
+            "and arms besides",
     "sites": "sites: wants a whole number from 1 to 8",
     "f": "f: wants a whole number below sites",
     "containers": 'container {}: wants [number, "regular" or "cset", site] in a list, numbers below 2^32 that rise, a site '
@@ -30,6 +31,7 @@ TEXTS = {
                "each site",
     "capacity": "the capacity: wants a whole number from 19 to 1099511627776",
     "areas": f"the areas: wants 1 or 2, and 2 only where the capacity is at least {journals.LEAST_OF_TWO}",
+    "room": "the room: wants a whole number from 0 to 100000",
     "link": "the link: wants an object of just seed, a whole number below 2^64, and lose, repeat and swap, whole numbers "
             "from 0 to 1000",
     "ticks": "the ticks: wants a whole number from 0 to 10000",
@@ -344,6 +346,8 @@ def check(value):
         refuse("capacity")
     if "areas" in value and not are_areas(value["areas"], value.get("capacity", CAPACITY)):
         refuse("areas")
+    if "room" in value and not is_whole(value["room"], 0, MOST_ROOM + 1):
+        refuse("room")
     if "link" in value and not is_link(value["link"]):
         refuse("link")
     if "ticks" in value and not is_whole(value["ticks"], 0, MOST_TICKS + 1):

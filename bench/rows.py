@@ -1,8 +1,8 @@
 #!/usr/bin/env python3
 """Plays worked runs of several sites in the plain model of model.py, step by step, and says which of them it answers
 otherwise. Each step has what is to come of it, told by hand: a reply, or an outcome with the record and what is put out.
-Then it plays the runs that the program is tested by, and compares what it writes of each with what the program is to write.
-Ends with status 1 where something isn't met.
+Then it plays the runs that the program is tested by, those with a stop at each device call among them, and compares what it
+writes of each with what the program is to write. Ends with status 1 where something isn't met.
 """
 
 import json
@@ -12,6 +12,7 @@ import struct
 import sys
 from collections import Counter
 
+import journals
 import model
 import readings
 from spelled import *
@@ -55,6 +56,14 @@ def is_level(number):
     return bytes([LEVEL_IS, number])
 
 
+def unsure(*tid):
+    return bytes([UNSURE]) + name_of(tid)
+
+
+def gone(*tid):
+    return refusal(7, name_of(tid))
+
+
 def value(content):
     return bytes([VALUE, 0]) if content is None else bytes([VALUE, 1]) + frame(content)
 
@@ -96,9 +105,19 @@ class Row:
         self.run.step(word, site, *rest)
         self.check((word, site, *rest), self.run.sites[site].entries[-1], to, record, sends)
 
+    def nothing(self, to, site, number):
+        """The step hands over a packet that was never put out."""
+        count = len(self.run.sites[to].entries)
+        self.made["steps"].append(["deliver", to, site, number])
+        self.run.step("deliver", to, site, number)
+        if len(self.run.sites[to].entries) != count:
+            self.wrong.append((("deliver", to, site, number), None, self.run.sites[to].entries[-1]))
+
     def check(self, what, entry, outcome, record, sends):
+        """The record is one that the event made stable, or that met a fault and is in flight."""
         put_out = ",".join(f"{to}:{packet_told(packet)}" for to, packet in entry.sends)
-        found = entry.outcome, RECORDS[entry.wrote[0]] if entry.wrote else None, put_out
+        journaled = entry.wrote or entry.flight
+        found = entry.outcome, RECORDS[journaled[0]] if journaled else None, put_out
         if found != (outcome, record, sends):
             self.wrong.append((what, (outcome, record, sends), found))
 
@@ -182,8 +201,8 @@ def a_cause_comes_first():
     return row
 
 
-def a_slow_commit_alone():
-    row = Row(2, 0, [REGULAR_AT_0], (0, 1))
+def a_slow_commit_alone(*arms):
+    row = Row(2, 0, [REGULAR_AT_0], (0, 1), arms)
     row.begins(1, (1, 1, 1), ((1, 5), b"s"))
     row.call(1, COMMIT_IT, deciding(1, 1, 1), "SlowBegin", "0:prepare 1")
     return row
@@ -267,10 +286,62 @@ def a_prepare_comes_late():
 def a_stop_at_the_gate(choice, how_far):
     row = Row(2, 1, [REGULAR_AT_0], (0,), [[0, 3, choice]])
     row.begins(0, (0, 1, 1), ((1, 5), b"a"))
-    row.call(0, COMMIT_IT, bytes([UNSURE]) + name_of((0, 1, 1)))
+    row.call(0, COMMIT_IT, unsure(0, 1, 1), "Own")
     row.call(0, START_IT, refusal(9))
     row.step("restart", 0, record="Boot")
     row.call(0, level(0, 1, 1), is_level(how_far))
+    return row
+
+
+def a_stop_at_the_vote(choice, how_far):
+    """The disk fails at the gate of the commit that the last YES brings. Behind the restart the client, whose transaction is
+    gone, learns whether it is committed."""
+    row = a_slow_commit_alone([1, 7, choice])
+    row.begins(0, (0, 1, 1), ((1, 5), b"t"))
+    row.step("deliver", 0, 1, 1, record="Prepared", sends="1:vote 1 yes")
+    row.call(0, COMMIT_IT, locked((1, 5), (1, 1, 1)))
+    row.step("deliver", 1, 0, 1, to="failed", record="Own")
+    row.call(1, COMMIT_IT, refusal(9))
+    row.step("restart", 0, to="passed")
+    row.step("restart", 1, record="Boot")
+    row.call(1, COMMIT_IT, gone(1, 1, 1))
+    row.call(1, level(1, 1, 1), is_level(how_far))
+    return row
+
+
+def a_stop_at_the_slow_begin():
+    """The disk fails at the gate by which a slow commit is begun. It is found, and the Boot behind it ends it."""
+    row = Row(2, 0, [REGULAR_AT_0], (0, 1), [[1, 3, 1]])
+    row.begins(1, (1, 1, 1), ((1, 5), b"s"))
+    row.call(1, COMMIT_IT, unsure(1, 1, 1), "SlowBegin")
+    row.begins(0, (0, 1, 1), ((1, 5), b"t"))
+    row.nothing(0, 1, 1)
+    row.call(0, COMMIT_IT, committed(0, 1), "Own", "1:propagate 1,1:dsmark 1")
+    row.step("deliver", 1, 0, 1, to="down")
+    row.call(1, COMMIT_IT, refusal(9))
+    row.step("restart", 0, to="passed")
+    row.step("restart", 1, record="Boot")
+    row.call(1, level(1, 1, 1), is_level(0))
+    return row
+
+
+def a_stop_at_the_lock():
+    """The disk fails at the gate of a lock. It is found, and who asks again is told YES."""
+    row = a_slow_commit_alone([0, 3, 1])
+    row.begins(0, (0, 1, 1), ((1, 5), b"t"))
+    row.step("deliver", 0, 1, 1, to="failed", record="Prepared")
+    row.call(0, COMMIT_IT, refusal(9))
+    row.nothing(1, 0, 1)
+    row.call(1, COMMIT_IT, deciding(1, 1, 1))
+    row.step("restart", 0, record="Boot")
+    row.step("restart", 1, to="passed")
+    row.call(0, START_IT, gone(0, 1, 1))
+    row.begins(0, (0, 2, 1), ((1, 5), b"t"))
+    row.call(0, COMMIT_IT, locked((1, 5), (1, 1, 1)))
+    row.step("tick", 1, to="passed", sends="0:prepare 1")
+    row.step("deliver", 0, 1, 2, to="passed", sends="1:vote 1 yes")
+    row.step("deliver", 1, 0, 1, record="Own", sends="0:propagate 1")
+    row.call(1, COMMIT_IT, committed(1, 1))
     return row
 
 
@@ -282,7 +353,7 @@ def locks_outlive_a_stop():
     row.step("deliver", 1, 2, 1, record="Prepared", sends="2:vote 1 yes")
     row.step("stop", 2)
     row.step("restart", 2, record="Boot")
-    row.call(0, COMMIT_IT, refusal(7, name_of((2, 1, 1))))
+    row.call(0, COMMIT_IT, gone(2, 1, 1))
     row.step("stop", 0)
     row.step("restart", 0, record="Boot")
     row.begins(1, (0, 2, 1), ((1, 1), b"b"))
@@ -392,6 +463,10 @@ ROWS = {
     "a PREPARE comes late": a_prepare_comes_late,
     "a commit at whose gate the disk fails is found": lambda: a_stop_at_the_gate(1, 3),
     "a commit at whose gate the disk fails is lost": lambda: a_stop_at_the_gate(7, 0),
+    "a commit at whose vote the disk fails is found": lambda: a_stop_at_the_vote(1, 3),
+    "a commit at whose vote the disk fails is lost": lambda: a_stop_at_the_vote(0, 0),
+    "a slow commit at whose beginning the disk fails is over": a_stop_at_the_slow_begin,
+    "a lock at whose gate the disk fails is found": a_stop_at_the_lock,
     "locks outlive a stop": locks_outlive_a_stop,
     "a commit is durable and then visible": durable_and_then_visible,
     "a lock of what the snapshot has is waited for": the_lock_of_a_cause,
@@ -446,10 +521,58 @@ def report_of(command, scenario):
     return "".join(line for line in lines if command == "trace" or not line.startswith("e "))
 
 
+def is_unread(report):
+    """Whether a restart failed and left nothing in flight: this doesn't come to sites without disks."""
+    return re.search(r"^e \S+ \S+ \S+ failed \S+ - - ", report, re.M) is not None
+
+
 def legal(scenario):
     """What is said of a history: at sites without disks each disk can be read."""
-    unread = re.search(r"^e \S+ \S+ \S+ failed - - - ", report_of("trace", scenario), re.M)
+    unread = is_unread(report_of("trace", scenario))
     return "legal; a disk could not be read\n" if unread else "legal, and the same without disks\n"
+
+
+# ---- stops
+
+
+# What a failed call leaves of what was written since the last sync: nothing, all of it, or bytes 7.
+CHOICES = 0, 1, 7
+
+
+def armed(made, site, nth, choice):
+    return {**made, "arms": [[site, nth, choice]]}
+
+
+def stopped(made, site, choice_of):
+    """The scenario with an arm at each call of a site's disk, each by the choice for its number, and its run in the model,
+    until an arm isn't reached."""
+    nth = 0
+    while True:
+        nth += 1
+        one = armed(made, site, nth, choice_of(nth))
+        run = model.played(one, Counter())
+        if run.sites[site].disk.arm is not None:
+            return
+        yield nth, one, run
+
+
+def is_found(site):
+    """Whether the record that is in flight when the run ends stands in the journal. The disk settles."""
+    site.disk.settle()
+    held = journals.read(bytes(site.disk.reads), site.capacity, site.count)
+    return len(journals.bodies_of(held)) > len(site.records)
+
+
+def stops(made, passes):
+    """What is said of a scenario with a stop at each call of each site's disk, in so many passes."""
+    calls, runs, same, flights = [0] * made["sites"], 0, 0, []
+    for site in range(made["sites"]):
+        for each in range(passes):
+            for nth, _, run in stopped(made, site, lambda nth: CHOICES[(nth - 1 + each) % len(CHOICES)]):
+                calls[site], runs, same = nth, runs + 1, same + (not is_unread(run.text()))
+                flights += [is_found(one) for one in run.sites if one.flight]
+    return (f"calls that were stopped: {' '.join(map(str, calls))}; runs: {runs}, {same} of them the same without disks; "
+            f"in flight at the end: {len(flights)}, {sum(flights)} of them found\n")
 
 
 def refused(data):
@@ -466,6 +589,8 @@ def written(line):
     text = expanded(rest)
     if command in ("report", "trace"):
         return report_of(command, text) + legal(text)
+    if command in ("stops", "stops-in-turn"):
+        return stops(json.loads(text), len(CHOICES) if command == "stops" else 1)
     if command == "brief" and text.count('"call"') < 100_000:
         return brief(report_of(command, text))
     if command in ("read", "bytes"):

@@ -85,6 +85,7 @@ CASES = [
     ("no areas", ["play"], scenario(more=',"areas":0'), None, 2, NO_READING + readings.TEXTS["areas"], ""),
     ("two areas in 46 bytes", ["play"], scenario(more=',"areas":2,"capacity":46'), None, 2,
      NO_READING + readings.TEXTS["areas"], ""),
+    ("a room of 100,001", ["play"], scenario(more=',"room":100001'), None, 2, NO_READING + readings.TEXTS["room"], ""),
     ("a link without a seed", ["play"], scenario(more=',"link":{"lose":0,"repeat":0,"swap":0}'), None, 2,
      NO_READING + readings.TEXTS["link"], ""),
     ("10,001 ticks", ["play"], scenario(more=',"ticks":10001'), None, 2, NO_READING + readings.TEXTS["ticks"], ""),

@@ -18,14 +18,11 @@ import argparse
 import json
 import subprocess
 import sys
-from collections import Counter
 
 import loads
-import model
 from compare import built, first_difference
-from rows import example
+from rows import CHOICES, example, stopped
 
-CHOICES = 0, 1, 7
 LOAD = 7, 40
 # Two areas of this take all records of the slow commit several times.
 CAPACITY_OF_TWO = 4096
@@ -47,22 +44,6 @@ SCENARIOS = {
 }
 
 
-def armed(made, site, nth, choice):
-    return {**made, "arms": [[site, nth, choice]]}
-
-
-def stopped(made, site, choice):
-    """The scenario with an arm at each call of a site's disk, and its run in the model, until an arm isn't reached."""
-    nth = 0
-    while True:
-        nth += 1
-        one = armed(made, site, nth, choice)
-        run = model.played(one, Counter())
-        if run.sites[site].disk.arm is not None:
-            return
-        yield nth, one, run
-
-
 def wrong_of(program, made, run):
     """What is wrong with the program's run of a scenario, or None."""
     ended = subprocess.run([program, "play", "--trace"], input=json.dumps(made), capture_output=True, text=True)
@@ -80,7 +61,7 @@ def tried(program, name, made):
     for site in range(made["sites"]):
         reached = [0]
         for choice in CHOICES:
-            for nth, one, run in stopped(made, site, choice):
+            for nth, one, run in stopped(made, site, lambda _: choice):
                 reached.append(nth)
                 runs += 1
                 wrong = wrong_of(program, one, run) if program else None

@@ -171,9 +171,9 @@ def main():
         print(json.dumps(scenario(words.seed)))
         return
     program, met = words.program or compare.built(), Counter()
-    areas = compare.knows_areas(program)
+    areas = compare.knows(program, "areas")
     if not areas:
-        print(compare.NO_AREAS)
+        print(compare.NO_KEY.format("areas"))
     seeds = range(words.seed, words.seed + words.scenarios)
     count = sum(accepted(program, seed, areas, met, words.kilobytes) for seed in seeds)
     print("met: " + "; ".join(f"{kind}: {met[kind]:,}" for kind in ALL if met[kind]))

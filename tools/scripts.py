@@ -44,7 +44,7 @@ NUMBERS = {
 }
 STEPS = ("arm", "stop", "restart", "deliver", "advance", "tick", "pump")
 LINK = ("seed", "lose", "repeat", "swap")
-MOST_RATE, MOST_TICKS, MOST_THREADS = 1000, 10_000, 32
+MOST_ROOM, MOST_RATE, MOST_TICKS, MOST_THREADS = 100_000, 1000, 10_000, 32
 MOST_SITES, MOST_CONTAINERS, MOST_CLIENTS, MOST_PACKET = 8, 256, 1024, (1 << 32) - 1
 LEAST_CAPACITY, MOST_CAPACITY, MOST_BYTES = 19, 1 << 40, 16_777_216
 # The least capacity of journals of two areas, of which each has half.
@@ -232,7 +232,7 @@ class Script:
 
     def __init__(self):
         self.place = 0
-        self.sites = self.tolerated = self.capacity = self.areas = self.link = self.ticks = self.threads = None
+        self.sites = self.tolerated = self.capacity = self.areas = self.room = self.link = self.ticks = self.threads = None
         self.containers, self.arms, self.armed_at = [], [], []
         self.clients, self.numbers, self.items = [], {}, []
         self.steps, self.places = [], []
@@ -277,6 +277,9 @@ class Script:
     def take_areas(self, count):
         most = 1 if self.capacity is not None and self.capacity < LEAST_OF_TWO else 2
         self.areas = number(count, 1, most + 1, f"1 or 2 areas, and 2 only where the capacity is at least {LEAST_OF_TWO}")
+
+    def take_room(self, count):
+        self.room = number(count, 0, MOST_ROOM + 1, f"a number of entries to {MOST_ROOM}")
 
     def take_link(self, seed, *rates):
         seed = number(seed, 0, 1 << 64, "a seed below 2^64")
@@ -423,7 +426,7 @@ class Script:
     def head(self):
         """What a scenario has beside its clients and its steps."""
         made = {"sites": self.sites, "f": self.tolerated, "containers": self.containers}
-        for key in "capacity", "areas", "link", "ticks", "threads":
+        for key in "capacity", "areas", "room", "link", "ticks", "threads":
             if getattr(self, key) is not None:
                 made[key] = getattr(self, key)
         if self.arms:
@@ -460,6 +463,7 @@ FORMS = {
     "sites N tolerated F": Script.take_sites,
     "capacity N": Script.take_capacity,
     "areas N": Script.take_areas,
+    "room N": Script.take_room,
     "link seed N lose N repeat N swap N": Script.take_link,
     "ticks N": Script.take_ticks,
     "threads N": Script.take_threads,
@@ -607,7 +611,7 @@ def head_lines(script, names):
 def catalog_lines(made):
     """The lines of what a scenario has beside its clients, its arms and its steps."""
     lines = [f"sites {made['sites']} tolerated {made['f']}"]
-    lines += lines_of_keys(made, "capacity", "areas")
+    lines += lines_of_keys(made, "capacity", "areas", "room")
     if "link" in made:
         lines.append(words_of_step("link", *(made["link"][part] for part in LINK)))
     lines += lines_of_keys(made, "ticks", "threads")

@@ -1,8 +1,8 @@
 """The smallest script that can be found which still breaks an expectation: items of a script are left out as long as it does.
 
 What the link made is left out freely. A client's own lines are left out only where the script without them, played by its own
-deliveries, still meets the expectation: else anything that lacks a line would break it. So is the line that says how many areas
-journals have.
+deliveries, still meets the expectation: else anything that lacks a line would break it. So are the lines that say how many
+areas journals have, and for how many entries trails have their memory from the start.
 """
 
 import copy
@@ -39,7 +39,8 @@ class Search:
         self.may_shorten = meets(played(script, self.own))
 
     def smallest(self):
-        self.leave_out_areas()
+        for setting in "areas", "room":
+            self.leave_out_setting(setting)
         for _ in range(ROUNDS):
             before = len(self.items)
             if self.may_shorten:
@@ -74,11 +75,11 @@ class Search:
                 [item for item in self.items if not is_of_client(item) or item.place not in places]):
             self.own = own
 
-    def leave_out_areas(self):
-        """Goes on with journals of one area where these come to the same."""
+    def leave_out_setting(self, name):
+        """Goes on without the setting of this name where that comes to the same."""
         script = copy.copy(self.script)
-        script.areas = None
-        if self.script.areas is None or not self.meets(played(script, self.own)):
+        setattr(script, name, None)
+        if getattr(self.script, name) is None or not self.meets(played(script, self.own)):
             return
         run = played(script, self.items)
         if self.breaks(run):

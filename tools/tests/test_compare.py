@@ -11,9 +11,9 @@ from played import InFolder, TOP, random_scenario, run_bench
 import compare
 
 MODEL = f'#!/bin/sh\nexec {sys.executable} {os.path.join(TOP, "bench", "model.py")} "$@"\n'
-# Refuses a scenario with areas, and hands on any other.
+# Refuses a scenario with areas or room, and hands on any other.
 REFUSING = """read -r line
-case $line in *'"areas"'*) exit 2 ;; esac
+case $line in *'"areas"'* | *'"room"'*) exit 2 ;; esac
 echo "$line" |"""
 
 
@@ -34,16 +34,24 @@ class Compare(InFolder):
         seeds = range(3, made[-1][0] + 1)
         self.assertEqual(made, [(seed, random_scenario(seed)) for seed in seeds if random_scenario(seed)["sites"] > 1])
 
-    def test_a_program_that_refuses_the_key_is_compared_without_areas(self):
+    def test_a_program_that_refuses_keys_is_compared_without_them(self):
         playing = MODEL.replace("exec", "shift\nexec")
-        self.assertTrue(compare.knows_areas(self.write("program", playing, is_program=True)))
+        newer = self.write("program", playing, is_program=True)
         older = self.write("older", playing.replace("exec", REFUSING), is_program=True)
-        self.assertFalse(compare.knows_areas(older))
+        for key in "areas", "room":
+            self.assertEqual([compare.knows(program, key) for program in (newer, older)], [True, False])
         out = run_bench(compare, "--program", older, "--scenarios", "2", "--seed", "1", "--loads", "0")[1].splitlines()
-        self.assertEqual((out[0], out[-1]), ("the program refuses the key areas: no scenario has it",
-                                             "2 scenarios from seed 1: the same"))
+        self.assertEqual([*out[:2], out[-1]], ["the program refuses the key areas: no scenario has it",
+                                               "the program refuses the key room: no scenario has it",
+                                               "2 scenarios from seed 1: the same"])
         out = run_bench(compare, "--model", "--one-area", "--scenarios", "2", "--loads", "0")[1]
         self.assertNotIn("pack into", out)
+
+    def test_random_scenarios_have_a_room_unless_none_is_asked_for(self):
+        some, alone = ([made for _, made in compare.made_from(0, 60, False, True, room)] for room in (True, False))
+        self.assertEqual({made.get("room") for made in some}, {None, 0, 1, 20, 100000})
+        self.assertFalse(any("room" in made for made in alone))
+        self.assertEqual([{key: value for key, value in made.items() if key != "room"} for made in some], alone)
 
     def test_of_any_number_of_sites(self):
         self.assertEqual(list(compare.made_from(3, 5, False)), [(seed, random_scenario(seed)) for seed in range(3, 8)])

@@ -50,6 +50,8 @@ PLACES = [
     ("clients", [[0, "0 0"]], "clients", 0), ("capacity", 18, "capacity"), ("capacity", 19, None),
     ("capacity", 1099511627776, None), ("capacity", 1099511627777, "capacity"), ("capacity", None, "capacity"),
     ("areas", 1, None), ("areas", 2, None), ("areas", 0, "areas"), ("areas", 3, "areas"), ("areas", None, "areas"),
+    ("room", 0, None), ("room", 100000, None), ("room", 100001, "room"), ("room", -1, "room"), ("room", 1.0, "room"),
+    ("room", None, "room"),
     ("link", LINK, None), ("link", {**LINK, "seed": 2**64 - 1, "lose": 1000}, None), ("link", [], "link"),
     ("link", {**LINK, "seed": 2**64}, "link"), ("link", {**LINK, "swap": 1001}, "link"), ("link", {**LINK, "repeat": -1}, "link"),
     ("link", {**LINK, "ticks": 1}, "link"), ("link", {"seed": 1, "lose": 1, "repeat": 1}, "link"), ("link", None, "link"),

@@ -32,7 +32,7 @@ WRONG = [
     ("container 2 list at 0", 4, '"list"', "regular|set", "container N regular|set at SITE"),
     ("client ann at 0", 4, '"ann"', "a client's name that is new", "client NAME at SITE"),
     ("sites 1 tolerated 0", 4, '"sites"', "the sites once", "sites N tolerated F"),
-    ("hello", 4, '"hello"', "one of sites, capacity, areas, link, ticks, threads, container, client", None),
+    ("hello", 4, '"hello"', "one of sites, capacity, areas, room, link, ticks, threads, container, client", None),
     ("ann start", 4, '"ann"', "a colon behind the client: ann: OPERATION ..", None),
     ("settle all", 4, '"all"', "[SITE]", "settle [SITE]"),
     # Limits of the program.
@@ -43,6 +43,7 @@ WRONG = [
     ("capacity 46\nareas 2", 5, '"2"', "1 or 2 areas, and 2 only where", "areas N"),
     ("areas 2\nticks 1\ncapacity 46", 6, '"46"', "a number of bytes from 47 to 1099511627776, since there are two areas",
      "capacity N"),
+    ("room 0\nroom 100001", 5, '"100001"', "a number of entries to 100000", "room N"),
     ("\n".join(f"container {number} set at 0" for number in range(2, 258)), 259, '"257"', "at most 256 containers",
      "container N regular|set at SITE"),
     ("\n".join(f"client c{number} at 0" for number in range(1024)), 1027, '"c1023"', "at most 1024 clients of a site",

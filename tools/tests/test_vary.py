@@ -123,9 +123,9 @@ class Vary(unittest.TestCase):
             self.assertNotIn("stop 0", varied.script_text(found))
         path = os.path.join(self.folder, "slow.script")
         with open(path, "w", encoding="utf-8") as file:
-            file.write(file_text(SLOW).replace("sites 2 tolerated 0", "sites 2 tolerated 0\ncapacity 9999\nareas 2"))
+            file.write(file_text(SLOW).replace("sites 2 tolerated 0", "sites 2 tolerated 0\ncapacity 9999\nareas 2\nroom 7"))
         status, told, _ = run_tool("vary", path, "--lose", "200", *ONE, "--expect", SLOW.replace(".script", ".expect"))
-        self.assertEqual((status, "\ncapacity 9999\n" in told, "areas" in told), (1, True, False))
+        self.assertEqual((status, "\ncapacity 9999\n" in told, "areas" in told, "room" in told), (1, True, False, False))
 
     def test_by_the_program(self):
         program = os.path.join(self.folder, "program")

@@ -1,6 +1,6 @@
 -- What the answers of a client's connection leave of what was read.
 use Rattle.std.proofs.Common.{◌≡◌, ◌≢◌, ◌⊎◌, ◌<◌, ℕ, List, [], ◌∷◌, ◌++◌, length, refl, ap, sym, ◌∙◌, subst, arith, inl, inr, Option, Some, None, Result, Ok, Err, get_or, slice_get, slice_set, nat_eq, if◌then◌else◌}
-use Rattle.std.specs.Prelude.{OnErr}
+use Rattle.std.specs.Prelude.{OnErr, IfSome, option_map}
 use Rattle.std.proofs.lemmas.Bool.{cases_lt, eq-eqb, ne_eqb}
 use Rattle.std.proofs.lemmas.List.{append-nil, length-set, get_or-set_same, get_or-set_other}
 use Rattle.std.proofs.lemmas.List.Concat.{flat_map-append}
@@ -9,7 +9,8 @@ use Rattle.walter_base.specs.declared.message.BadFrame.{BadFrame}
 use Rattle.walter_base.specs.declared.message.Request.{Request}
 use Rattle.walter_conn.specs.Calls.{Incoming, Answers, TakesCall, IsEnded, before, fault, cut}
 use Rattle.walter_conn.specs.Connections.{source_of, sink_of}
-use Rattle.walter_conn.specs.Frames.{Call}
+use Rattle.walter_conn.specs.Frames.{frame, Call}
+use Rattle.walter_request.specs.Requests.{SpellsWrite}
 use Rattle.walter_conn.specs.Outputs.{IsLost}
 use Rattle.walter_conn.specs.Outputs as outputs
 use Rattle.walter_conn.specs.Sequences.{EndCut}
@@ -142,3 +143,9 @@ calls_same client other entries e call apart is =
     flat_map-append (λ (z : Entry). call_by client z.event) entries (e ∷ [])
     ∙ (ap (λ xs. calls_of client entries ++ xs) (append-nil (call_by client e.event) ∙ (ap (λ (v : Event). call_by client v) is ∙ none))
     ∙ append-nil (calls_of client entries))
+
+-- what is held is the frame of a Write, and stands in front of what the source has left
+pub awaits_write : (held body : List ℕ) → held ≡ frame body → SpellsWrite body → (left : Option (List ℕ))
+    → IfSome (option_map (λ rest. held ++ rest) left) (λ bytes. (front : List ℕ) × (rest : List ℕ) × (bytes ≡ frame front ++ rest) × SpellsWrite front)
+awaits_write held body is spells None = tt
+awaits_write held body is spells (Some rest) = (body, rest, ap (λ (h : List ℕ). h ++ rest) is, spells)

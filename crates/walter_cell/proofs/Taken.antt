@@ -67,14 +67,14 @@ replies_stay client entries e none =
 
 module _ {D : Type 0} (g : Ghosts D) where
   pub keeps_room : (old new : NodeValue D) → IsSameButRoom old new → KeepsNode g old new
-  keeps_room old new same = subst (λ (n : NodeValue D). KeepsNode g old n) (sym same)
-      (record { catalog = refl; site = refl; layout = refl; told = refl; rings = refl })
+  keeps_room old new same = subst (λ (n : NodeValue D). KeepsNode g old n) (sym same.same)
+      (record { catalog = refl; site = refl; layout = refl; told = refl; rings = refl; places = omega (arith, same.more) })
 
   -- what was made ready for an entry takes it as it stood before
   pub ready_takes : (stamp : ℕ) (event : Event) (old mid new : NodeValue D) → IsSameButRoom old mid
       → Takes g stamp event mid new → Takes g stamp event old new
   ready_takes stamp event old mid new same takes =
-      let t = subst (λ (m : NodeValue D). Takes g stamp event m new) same takes in
+      let t = subst (λ (m : NodeValue D). Takes g stamp event m new) same.same takes in
       record {
         came = t.came;
         trail = t.trail;
@@ -85,6 +85,7 @@ module _ {D : Type 0} (g : Ghosts D) where
           layout = t.keeps.layout;
           told = t.keeps.told;
           rings = t.keeps.rings;
+          places = omega (arith, same.more, t.keeps.places);
         };
         same_mets = t.same_mets;
         arms = t.arms;
@@ -225,17 +226,17 @@ module _ {D : Type 0} (g : Ghosts D) (old : CellValue D) (node : NodeValue D)
 module _ {D : Type 0} (g : Ghosts D) (old : CellValue D) (node : NodeValue D)
     (same : IsSameButRoom old.node node) where
   pub cell_room : IsCell old → IsCell (record { node = node; ins = old.ins; lines = old.lines })
-  cell_room cell = cell_kept old node old.lines (ap (λ (n : NodeValue D). n.catalog) same) (ap (λ (n : NodeValue D). n.site) same)
-      (ap (λ (n : NodeValue D). n.trail) same) (λ client. refl) cell
+  cell_room cell = cell_kept old node old.lines (ap (λ (n : NodeValue D). n.catalog) same.same) (ap (λ (n : NodeValue D). n.site) same.same)
+      (ap (λ (n : NodeValue D). n.trail) same.same) (λ client. refl) cell
 
   pub proceeds_room : Proceeds g old (record { node = node; ins = old.ins; lines = old.lines })
   proceeds_room = record {
     keeps = keeps_trail g old (record { node = node; ins = old.ins; lines = old.lines }) (keeps_room g old.node node same) refl (λ from. omega arith) refl
-        (ap (λ (n : NodeValue D). n.trail) same);
+        (ap (λ (n : NodeValue D). n.trail) same.same);
     ins = refl;
-    same_mets = ap (λ (n : NodeValue D). mets n.outs) same;
-    arms = ap (λ (n : NodeValue D). arms_under g n.disk) same;
-    drops = λ told. inl (ap (λ (n : NodeValue D). n.trail) same);
+    same_mets = ap (λ (n : NodeValue D). mets n.outs) same.same;
+    arms = ap (λ (n : NodeValue D). arms_under g n.disk) same.same;
+    drops = λ told. inl (ap (λ (n : NodeValue D). n.trail) same.same);
   }
 
 -- a trail that is spent for an entry that brings no packet

@@ -289,8 +289,8 @@ module _ {D : Type 0} (g : Ghosts D) (old new : CellValue D) (number : ℕ) (bef
     -- no call came
     proceeds_idle : IsSameButRoom old.node new.node → new.ins ≡ old.ins → Proceeds g old new
     proceeds_idle same ins =
-        proceeds_by (keeps_room g old.node new.node same) ins (ap (λ (n : NodeValue D). mets n.outs) same)
-        (ap (λ (n : NodeValue D). arms_under g n.disk) same) (λ told. inl (ap (λ (n : NodeValue D). n.trail) same))
+        proceeds_by (keeps_room g old.node new.node same) ins (ap (λ (n : NodeValue D). mets n.outs) same.same)
+        (ap (λ (n : NodeValue D). arms_under g n.disk) same.same) (λ told. inl (ap (λ (n : NodeValue D). n.trail) same.same))
 
     -- a call came
     proceeds_called : (stamp : ℕ) (event : Event) → Takes g stamp event old.node new.node → new.ins ≡ old.ins → Proceeds g old new
@@ -320,8 +320,8 @@ module _ {D : Type 0} (g : Ghosts D) (told old : CellValue D) (is_told : old ≡
 
   -- no call came
   pub cell_used : IsSameButRoom old.node node → IsCell old → IsCell after_turn
-  cell_used same cell = cell_kept old node after_turn.lines (ap (λ (n : NodeValue D). n.catalog) same) (ap (λ (n : NodeValue D). n.site) same)
-      (ap (λ (n : NodeValue D). n.trail) same) (here_set old.lines number after here_old) cell
+  cell_used same cell = cell_kept old node after_turn.lines (ap (λ (n : NodeValue D). n.catalog) same.same) (ap (λ (n : NodeValue D). n.site) same.same)
+      (ap (λ (n : NodeValue D). n.trail) same.same) (here_set old.lines number after here_old) cell
 
   -- a call came
   pub cell_served : (call : Call) (stamp : ℕ) → Takes g stamp (Given (CallInput number call)) old.node node

@@ -22,7 +22,7 @@ use Rattle.walter_rules.specs.Layouts.{Layout}
 use Rattle.walter_rules.specs.Standing.{Standing}
 use Rattle.walter_rules.specs.Trails.{standing}
 use Rattle.walter_site.specs.Members.{IsShortOutcome}
-use Rattle.walter_cell.specs.Nodes.{NodeParts, NodeValue, Room, IsNode, IsKnownNode, IsSameButDisk, IsWhole, IsSound, is_told, arms_under, seen, entry_by, MayDrop, Takes}
+use Rattle.walter_cell.specs.Nodes.{NodeParts, NodeValue, IsNode, IsKnownNode, IsSameButDisk, IsWhole, IsSound, is_told, arms_under, seen, entry_by, MayDrop, Takes}
 use Rattle.walter_cell.proofs.Nodes.{has_disk}
 
 -- what holds of both disks, holds of them in other words
@@ -80,7 +80,7 @@ module _ {D : Type 0} {g : Ghosts D} where
   leaves_stored layout S (Some (Closed disk)) is = is.images
 
   -- a site with its trail and its lanes is sound
-  pub sound_of : (room : Room) (n : NodeParts D g) → IsWhole g n → IsSound g (seen room n)
+  pub sound_of : (room : ℕ) (n : NodeParts D g) → IsWhole g n → IsSound g (seen room n)
   sound_of room n whole = record {
     begins = whole.is.begins;
     early = subst (λ m. m < 2 ^ 62) whole.is.last whole.is.early;
@@ -149,10 +149,10 @@ module _ {D : Type 0} {g : Ghosts D} where
       })
 
   -- what contracts see of it then
-  pub seen_over : (old : NodeParts D g) (engine : Engine D g) (before after : Room) → IsSameEngine old.engine engine
-      → IsSameButDisk (seen before old) (seen after (record old { engine = engine }))
-  seen_over old engine before after same =
-      let new : NodeValue D = record (seen after old) { disk = disk_in engine } in
+  pub seen_over : (old : NodeParts D g) (engine : Engine D g) (room : ℕ) → IsSameEngine old.engine engine
+      → IsSameButDisk (seen room old) (seen room (record old { engine = engine }))
+  seen_over old engine room same =
+      let new : NodeValue D = record (seen room old) { disk = disk_in engine } in
       ap (λ (c : Catalog). record new { catalog = c; site = site_in engine; layout = layout_in engine }) same.catalog
       ∙ (ap (λ (i : SiteId). record new { site = i; layout = layout_in engine }) same.site
       ∙ ap (λ (l : Layout). record new { layout = l }) same.layout)
@@ -167,14 +167,14 @@ module _ {D : Type 0} {g : Ghosts D} where
   reads_before old new kept told = told_some g (disk_in old) (told_before old new kept told)
 
   -- what an event does to a site with its trail and its lanes, as contracts see it
-  pub takes_of : (old new : NodeParts D g) (before after : Room) (stamp : ℕ) (event : Event) (came : Came)
-      → new.trail ≡ old.trail ++ entry_by stamp event came ∷ [] → IsShortOutcome came.outcome → IsSameEngine old.engine new.engine
+  pub takes_of : (old new : NodeParts D g) (before after : ℕ) (stamp : ℕ) (event : Event) (came : Came)
+      → new.trail ≡ old.trail ++ entry_by stamp event came ∷ [] → length old.trail + before ≤ length new.trail + after → IsShortOutcome came.outcome → IsSameEngine old.engine new.engine
       → IfSome (disk_in old.engine) (λ a. IfSome (disk_in new.engine) (λ b. is_some (g.known b).reads ≡ is_some (g.known a).reads))
       → IfSome (disk_in old.engine) (λ a. IfSome (disk_in new.engine) (λ b. (g.known b).arms ≡ (g.known a).arms))
       → out_rings new.outs ≡ out_rings old.outs → mets new.outs ≡ mets old.outs
       → (is_told g (disk_in old.engine) ≡ true → MayDrop (catalog_in old.engine) (site_in old.engine) (met_to old.outs) old.trail new.trail)
       → Takes g stamp event (seen before old) (seen after new)
-  takes_of old new before after stamp event came grown short same tells arms rings ms drops = record {
+  takes_of old new before after stamp event came grown places short same tells arms rings ms drops = record {
     came = came;
     trail = grown;
     short = short;
@@ -184,6 +184,7 @@ module _ {D : Type 0} {g : Ghosts D} where
       layout = same.layout;
       told = told_both g (disk_in old.engine) (disk_in new.engine) (has_disk old.engine) (has_disk new.engine) tells;
       rings = rings;
+      places = places;
     };
     same_mets = ms;
     arms = arms_both g (disk_in old.engine) (disk_in new.engine) (has_disk old.engine) (has_disk new.engine) arms;

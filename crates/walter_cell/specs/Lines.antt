@@ -1,8 +1,9 @@
 -- The connections of a site's clients, by the clients' numbers, and what was read of them.
-use Rattle.std.specs.Prelude.{◌≡◌, ◌≢◌, ◌<◌, ◌⊎◌, ℕ, Bool, true, false, Option, Some, None, List, [], ◌∷◌, ◌++◌, slice_get}
+use Rattle.std.specs.Prelude.{◌≡◌, ◌≢◌, ◌<◌, ◌⊎◌, ℕ, Bool, true, false, Option, Some, None, IfSome, List, [], ◌∷◌, ◌++◌, slice_get}
 use Rattle.walter_conn.specs.Calls.{Incoming}
 use Rattle.walter_conn.specs.Connections.{incoming, sink_of}
-use Rattle.walter_conn.specs.Frames.{Call}
+use Rattle.walter_conn.specs.Frames.{frame, Call}
+use Rattle.walter_request.specs.Requests.{SpellsWrite}
 use Rattle.walter_conn.specs.Sequences.{EndWhole, EndCut, HasCalled}
 use Rattle.walter_conn.specs.declared.conn.Conn.{Conn}
 use Rattle.walter_conn.specs.declared.next.Next.{Next}
@@ -62,6 +63,15 @@ IsLineAt bytes calls lines number = OfLine lines number (λ line. IsLine bytes c
 -- and it has failed
 abbrev pub HasFaultAt : List (Option LineValue) → ℕ → Type 0
 HasFaultAt lines number = OfLine lines number (λ line. HasFault line)
+
+-- what is to come of a client begins with the frame of a Write, where its source tells that
+abbrev pub AwaitsWrite : Incoming → Type 0
+AwaitsWrite incoming = IfSome incoming.unread (λ bytes. (body : List ℕ) × (rest : List ℕ)
+    × (bytes ≡ frame body ++ rest) × SpellsWrite body)
+
+-- so it is of the client of this number, which has its connection here
+abbrev pub NextIsWrite : List (Option LineValue) → ℕ → Type 0
+NextIsWrite lines number = OfLine lines number (λ line. AwaitsWrite line.incoming)
 
 -- behind a call the connection isn't broken
 abbrev pub IsUnbroken : Incoming → Next → Type 0

@@ -1,6 +1,6 @@
 -- What contracts see of a site with its trail and its lanes, and what holds of it between two events.
-use Rattle.std.specs.Prelude.{◌≡◌, ◌<◌, ◌≤◌, ◌⊎◌, ◌^◌, ℕ, Bool, true, false, List, [], ◌∷◌, ◌++◌, Option, Some, None, IfSome, All}
-use Rattle.std.specs.Prelude.{reverse, slice_get, count_by, is_some, vec_len}
+use Rattle.std.specs.Prelude.{◌≡◌, ◌<◌, ◌≤◌, ◌⊎◌, ◌+◌, ◌^◌, ℕ, Bool, true, false, List, [], ◌∷◌, ◌++◌, Option, Some, None, IfSome, All}
+use Rattle.std.specs.Prelude.{length, reverse, slice_get, count_by, is_some}
 use Rattle.walter_base.specs.declared.catalog.Catalog.{Catalog}
 use Rattle.walter_base.specs.declared.names.SiteId.{SiteId}
 use Rattle.walter_disk.specs.declared.disk.Disk.{Ghosts}
@@ -9,7 +9,6 @@ use Rattle.walter_engine.specs.Engines.{catalog_in, site_in, layout_in, disk_in,
 use Rattle.walter_engine.specs.declared.engine.Engine.{Engine}
 use Rattle.walter_lane.specs.Lanes.{Sending}
 use Rattle.walter_machine.specs.Comings.{IsSized, is_faulty}
-use Rattle.walter_machine.specs.Machines.{IsRoom}
 use Rattle.walter_rules.specs.declared.entry.Came.{Came}
 use Rattle.walter_rules.specs.declared.entry.Entry.{Entry}
 use Rattle.walter_rules.specs.declared.event.Event.{Event}
@@ -21,15 +20,8 @@ use Rattle.walter_site.specs.Members.{IsShortOutcome}
 use Rattle.walter_cell.specs.Entries.{HaveRisingStamps}
 use Rattle.walter_outbox.specs.Lanes.{HavePut, out_rings, mets, met_to, IsPutWhereFree}
 
--- the memory that there is: for how many more entries; and of the engine whether it has lost sessions, how many places it
--- has for records, and how many records there are
-pub record Room : Type 0 where
-  pub entries : ℕ
-  pub has_lost : Bool
-  pub places : ℕ
-  pub records : ℕ
-
--- the site with its disk and its trail, the ends of its lanes to all sites, and the memory that there is
+-- the site with its disk and its trail, and the ends of its lanes to all sites; and for how many more entries there is
+-- memory
 pub record NodeValue (D : Type 0) : Type 0 where
   pub catalog : Catalog
   pub site : SiteId
@@ -37,7 +29,7 @@ pub record NodeValue (D : Type 0) : Type 0 where
   pub disk : Option D
   pub trail : List Entry
   pub outs : List Sending
-  pub room : Room
+  pub room : ℕ
 
 -- the stamp of its last entry
 abbrev pub clock_in : {D : Type 0} → NodeValue D → ℕ
@@ -47,22 +39,26 @@ clock_in node = clock (reverse node.trail)
 abbrev pub standing_of : {D : Type 0} → NodeValue D → Standing
 standing_of node = standing node.catalog node.site (reverse node.trail)
 
--- there is memory for one more entry, and for what an event leaves
-pub record IsReady {D : Type 0} (node : NodeValue D) : Type 0 where
-  pub place : 0 < node.room.entries
-  pub room : IsRoom node.room.has_lost node.room.places node.room.records
+-- for how many entries its trail has had memory
+abbrev pub places_in : {D : Type 0} → NodeValue D → ℕ
+places_in node = length node.trail + node.room
 
--- but for the memory that it has it is as before
-abbrev pub IsSameButRoom : {D : Type 0} → (old new : NodeValue D) → Type 0
-IsSameButRoom old new = new ≡ record old { room = new.room }
+-- there is memory for one more entry
+abbrev pub IsReady : {D : Type 0} → NodeValue D → Type 0
+IsReady node = 0 < node.room
+
+-- but for more memory it is as before
+pub record IsSameButRoom {D : Type 0} (old new : NodeValue D) : Type 0 where
+  pub same : new ≡ record old { room = new.room }
+  pub more : old.room ≤ new.room
 
 -- but for the ends of its lanes
 abbrev pub IsSameButLanes : {D : Type 0} → (old new : NodeValue D) → Type 0
 IsSameButLanes old new = new ≡ record old { outs = new.outs }
 
--- but for its disk, and the memory that it has
+-- but for its disk
 abbrev pub IsSameButDisk : {D : Type 0} → (old new : NodeValue D) → Type 0
-IsSameButDisk old new = new ≡ record old { disk = new.disk; room = new.room }
+IsSameButDisk old new = new ≡ record old { disk = new.disk }
 
 -- the entry of an event that came to this
 abbrev pub entry_by : ℕ → Event → Came → Entry
@@ -113,13 +109,15 @@ module _ {D : Type 0} (g : Ghosts D) where
     pub leaves : is_told node.disk ≡ true
         → IfSome node.disk (LeavesRecords node.catalog node.layout node.site node.trail)
 
-  -- what each call keeps: which site it is, among which and over which kind of disk; and its lanes
+  -- what each call keeps: which site it is, among which and over which kind of disk; its lanes; and no memory for entries
+  -- is given back
   pub record KeepsNode (old new : NodeValue D) : Type 0 where
     pub catalog : new.catalog ≡ old.catalog
     pub site : new.site ≡ old.site
     pub layout : new.layout ≡ old.layout
     pub told : is_told new.disk ≡ is_told old.disk
     pub rings : out_rings new.outs ≡ out_rings old.outs
+    pub places : places_in old ≤ places_in new
 
   -- an event came to it: its entry stands last in the trail. Nothing else arms the disk or makes lanes' ends meet; of what
   -- is to be put out only what finds its lane full is dropped, where the disk tells what it holds.
@@ -167,17 +165,8 @@ pub record IsWhole {D : Type 0} (g : Ghosts D) (node : NodeParts D g) : Type 0 w
   pub known : is_told g (disk_in node.engine) ≡ true
       → IsKnownNode (catalog_in node.engine) (layout_in node.engine) (site_in node.engine) node
 
--- the memory that there is, with an engine and for so many more entries
-abbrev pub room_of : {D : Type 0} {g : Ghosts D} → ℕ → Engine D g → Room
-room_of entries engine = record {
-  entries = entries;
-  has_lost = is_some engine.machine.lost;
-  places = vec_len engine.machine.places;
-  records = engine.machine.records;
-}
-
--- what contracts see of it
-abbrev pub seen : {D : Type 0} {g : Ghosts D} → Room → NodeParts D g → NodeValue D
+-- what contracts see of it, where there is memory for so many more entries
+abbrev pub seen : {D : Type 0} {g : Ghosts D} → ℕ → NodeParts D g → NodeValue D
 seen room node = record {
   catalog = catalog_in node.engine;
   site = site_in node.engine;

@@ -1,5 +1,5 @@
 ghost use Rattle.std.specs.Prelude.{◌≡◌, ◌≢◌, ◌<◌, ◌≤◌, ◌++◌, ◌∷◌, ◌+◌, ◌↔◌, [], ℕ, List, Option, true};
-ghost use Rattle.std.specs.Prelude.{is_ok, if◌then◌else◌, length, map, max, option_map, Some, OnErr, OnOk, IfOk, IsTrue};
+ghost use Rattle.std.specs.Prelude.{is_ok, IsOk, if◌then◌else◌, length, map, max, option_map, Some, OnErr, OnOk, IfOk, IsTrue};
 ghost use mathlib.Core.List.{IsPrefix};
 ghost use Rattle.walter_base.specs.Vectors.{most_sites};
 ghost use Rattle.walter_rules.specs.declared.event.Event.TheVariants as event;
@@ -9,7 +9,7 @@ ghost use Rattle.walter_cell.specs.declared.answers.Serve.TheVariants as answers
 ghost use Rattle.walter_cell.specs.Builds.{Begins};
 ghost use Rattle.walter_cell.specs.Cells.{arrival, stamp_of_arrival};
 ghost use Rattle.walter_cell.specs.Entries.{IsPlain, IsSpent};
-ghost use Rattle.walter_cell.specs.Lines.{is_here, IsLineAt, CanFail, HasFaultAt};
+ghost use Rattle.walter_cell.specs.Lines.{is_here, IsLineAt, NextIsWrite, CanFail, HasFaultAt};
 ghost use Rattle.walter_cell.specs.Nodes.{clock_in, IsSound};
 ghost use Rattle.walter_outbox.specs.Lanes.{put_to, arrived_from, posted, ring_to, ring_from};
 ghost use Rattle.walter_checkpoint.specs.Areas.{shape_by};
@@ -61,10 +61,11 @@ impl<D: Disk + Drop, S: Source + Drop, K: Sink + Drop> Cell<D, S, K> {
     ghost use Rattle.walter_cell.specs.Cells.{CellValue, IsCell, Keeps, Proceeds, HasBegun, HaveMet, HasSameTrail};
     ghost use Rattle.walter_cell.specs.Cells.{TurnsTo, Acts, MovesTo};
     ghost use Rattle.walter_cell.specs.Turns.{ServesAt, AreSameBut};
-    ghost use Rattle.walter_cell.specs.Nodes.{arms_under, is_told, standing_of};
+    ghost use Rattle.walter_cell.specs.Nodes.{arms_under, is_told, places_in, standing_of};
     ghost use Rattle.walter_rules.specs.Deliveries.{IsLeastEnabled};
 
-    /// A site over its disk, up in its first epoch. Where it doesn't begin the disk comes back.
+    /// A site over its disk, up in its first epoch, with memory for so many entries. Where it doesn't begin the disk
+    /// comes back.
     pub fn begin(
         alloc: Global,
         disk: D,
@@ -72,6 +73,7 @@ impl<D: Disk + Drop, S: Source + Drop, K: Sink + Drop> Cell<D, S, K> {
         site: SiteId,
         capacity: u64,
         areas: u8,
+        room: u32,
         outs: Vec<Outbound>,
         ins: Vec<Inbound>,
         lines: Vec<Option<Line<S, K>>>,
@@ -88,8 +90,9 @@ impl<D: Disk + Drop, S: Source + Drop, K: Sink + Drop> Cell<D, S, K> {
             (HasBegun D.Disk catalog.now capacity areas site disk outs.items ins.items lines.items) }
         ensures begins { Begins D.Disk (λ cell. cell.node.disk) (shape_by capacity catalog.now.sites) areas
             disk result }
+        ensures room { IfOk result (λ cell. room ≤ places_in cell.node) }
     {
-        let node = Node::begin(alloc, disk, catalog, site, capacity, areas, outs)?;
+        let node = Node::begin(alloc, disk, catalog, site, capacity, areas, room, outs)?;
         Ok(Cell { node, ins, lines })
     }
 
@@ -168,6 +171,8 @@ impl<D: Disk + Drop, S: Source + Drop, K: Sink + Drop> Cell<D, S, K> {
         ensures others { AreSameBut number self.old.lines self.new.lines }
         ensures unserved { OnErr result (self.new.lines ≡ self.old.lines) }
         ensures kept { OnErr result (HasSameTrail self.old self.new) }
+        // Where there is memory for the entry, only the bytes of a Write may want more.
+        ensures roomy { OnErr result (0 < self.old.node.room → NextIsWrite self.old.lines number) }
 
         // Where it tells its bytes.
         ensures turn { (bytes : List ℕ)
@@ -233,6 +238,7 @@ impl<D: Disk + Drop, S: Source + Drop, K: Sink + Drop> Cell<D, S, K> {
         ensures acts { IfOk result (Acts (event.Given (input.Advance from)) (clock_in self.old.node)
             self.old.node.trail self.new.node.trail) }
         ensures kept { OnErr result (HasSameTrail self.old self.new) }
+        ensures roomy { 0 < self.old.node.room → IsOk result }
     {
         self.act(Event::Given(Input::Advance { from }))
     }
@@ -243,6 +249,7 @@ impl<D: Disk + Drop, S: Source + Drop, K: Sink + Drop> Cell<D, S, K> {
         ensures acts { IfOk result (Acts (event.Given input.Tick) (clock_in self.old.node)
             self.old.node.trail self.new.node.trail) }
         ensures kept { OnErr result (HasSameTrail self.old self.new) }
+        ensures roomy { 0 < self.old.node.room → IsOk result }
     {
         self.act(Event::Given(Input::Tick))
     }
@@ -253,6 +260,7 @@ impl<D: Disk + Drop, S: Source + Drop, K: Sink + Drop> Cell<D, S, K> {
         ensures acts { IfOk result (Acts event.Stop (clock_in self.old.node)
             self.old.node.trail self.new.node.trail) }
         ensures kept { OnErr result (HasSameTrail self.old self.new) }
+        ensures roomy { 0 < self.old.node.room → IsOk result }
     {
         self.act(Event::Stop)
     }
@@ -263,6 +271,7 @@ impl<D: Disk + Drop, S: Source + Drop, K: Sink + Drop> Cell<D, S, K> {
         ensures acts { IfOk result (Acts event.Restart (clock_in self.old.node)
             self.old.node.trail self.new.node.trail) }
         ensures kept { OnErr result (HasSameTrail self.old self.new) }
+        ensures roomy { 0 < self.old.node.room → IsOk result }
     {
         self.act(Event::Restart)
     }
@@ -274,6 +283,7 @@ impl<D: Disk + Drop, S: Source + Drop, K: Sink + Drop> Cell<D, S, K> {
         ensures acts { IfOk result (Acts event (clock_in self.old.node)
             self.old.node.trail self.new.node.trail) }
         ensures kept { OnErr result (HasSameTrail self.old self.new) }
+        ensures roomy { 0 < self.old.node.room → IsOk result }
     {
         let Some(stamp) = self.node.next_stamp(0) else {
             return Ok(Acted::Spent);

@@ -1,8 +1,7 @@
 ghost use Rattle.std.specs.Prelude.{◌≡◌, ◌<◌, ◌≤◌, true, ◌-◌, ◌++◌, ◌+◌, ◌≢◌, ◌∷◌, [], ℕ, max, slice_get, length};
-ghost use Rattle.std.specs.Prelude.{vec_len, vec_capacity, option_map, Some, OnErr, OnOk, IfOk, IfErr, IfSome, IfNone};
+ghost use Rattle.std.specs.Prelude.{vec_capacity, IsOk, option_map, Some, OnErr, OnOk, IfOk, IfErr, IfSome, IfNone};
 ghost use mathlib.Core.List.{IsPrefix};
 ghost use Rattle.walter_base.specs.Vectors.{most_sites};
-ghost use Rattle.walter_engine.specs.Engines.{IsRoomy};
 ghost use Rattle.walter_engine.specs.declared.answers.BeginFault.TheVariants as unbegun;
 ghost use Rattle.walter_machine.specs.States.{IsSizedEvent};
 ghost use Rattle.walter_cell.specs.Builds.{Begins, HasOpened, IsNewEngine};
@@ -46,13 +45,13 @@ impl<D: Disk> Model for Node<D> {
     ghost use Rattle.walter_base.specs.contracts.catalog.Catalog as coded_catalog;
     ghost use Rattle.walter_lane.specs.Lanes.{sending_code};
     ghost use Rattle.walter_rules.specs.contracts.entry.Entry as coded_entry;
-    ghost use Rattle.walter_cell.specs.Nodes.{NodeValue, IsWhole, room_of, seen};
+    ghost use Rattle.walter_cell.specs.Nodes.{NodeValue, IsWhole, seen};
 
     ghost Value = { NodeValue D };
 
     ghost coded = { Prim.hlevel (codes, coded_catalog.the_row.coded, coded_entry.the_row.coded, sending_code) };
 
-    ghost view = { λ n. seen (room_of (vec_capacity n.entries - vec_len n.entries) n.engine.value) (record {
+    ghost view = { λ n. seen (vec_capacity n.entries - vec_len n.entries) (record {
       engine = n.engine.value;
       trail = n.entries.items;
       clock = n.clock;
@@ -70,10 +69,11 @@ impl<D: Disk> Model for Node<D> {
 impl<D: Disk + Drop> Node<D> {
     ghost use Rattle.walter_rules.specs.Deliveries.{IsLeastEnabled};
     ghost use Rattle.walter_rules.specs.Trails.{IsNextStamp};
-    ghost use Rattle.walter_cell.specs.Nodes.{clock_in, standing_of, IsReady, IsSameButRoom, IsSameButLanes, IsSameButDisk};
+    ghost use Rattle.walter_cell.specs.Nodes.{clock_in, places_in, standing_of, IsReady, IsSameButRoom, IsSameButLanes, IsSameButDisk};
     ghost use Rattle.walter_cell.specs.Nodes.{IsSound, Takes, arms_under, is_told};
 
-    /// A site over its disk, up in its first epoch. Where it doesn't begin the disk comes back.
+    /// A site over its disk, up in its first epoch, with memory for so many entries. Where it doesn't begin the disk
+    /// comes back.
     #[tactic(auto, using(crate::proofs::Nodes::has_disk))]
     pub fn begin(
         alloc: Global,
@@ -82,6 +82,7 @@ impl<D: Disk + Drop> Node<D> {
         site: SiteId,
         capacity: u64,
         areas: u8,
+        room: u32,
         outs: Vec<Outbound>,
     ) -> Result<Node<D>, (D, BeginFault)>
         requires here { site.0 < catalog.now.sites }
@@ -93,8 +94,9 @@ impl<D: Disk + Drop> Node<D> {
         requires empty { (k : ℕ) → k < catalog.now.sites → put_to outs.items k ≡ [] }
         ensures opens { IfOk result (HasOpened D.Disk catalog.now capacity areas site disk outs.items) }
         ensures begins { Begins D.Disk (λ node. node.disk) (shape_by capacity catalog.now.sites) areas disk result }
+        ensures room { IfOk result (λ node. room ≤ places_in node) }
     {
-        let Ok((mut entries, place)) = open(alloc) else {
+        let Ok((mut entries, place)) = open(alloc, room) else {
             return Err((disk, BeginFault::NoMemory));
         };
         let mut engine = new_engine(alloc, disk, catalog, site, capacity, areas)?;
@@ -160,13 +162,14 @@ impl<D: Disk + Drop> Node<D> {
         Some(last + 1)
     }
 
-    /// Takes the memory for one more entry.
+    /// Takes the memory for one more entry, where there is none.
     pub fn make_ready(&mut self) -> Mem<()>
         ensures ready { OnOk result (IsReady self.new) }
+        ensures had { IsReady self.old → IsOk result }
         ensures same { IsSameButRoom self.old self.new }
     {
         self.entries.reserve(1)?;
-        self.engine.make_room()
+        Ok(())
     }
 
     /// An event comes to the site, with this stamp: its entry comes to the trail, and what it puts out to the lanes.
@@ -235,7 +238,7 @@ impl<D: Disk + Drop> Node<D> {
     }
 }
 
-// The site, down over its disk, with memory for its first entry. Where there is none the disk comes back.
+// The site, down over its disk. Where there is no memory for it the disk comes back.
 fn new_engine<D: Disk + Drop>(
     alloc: Global,
     disk: D,
@@ -249,15 +252,11 @@ fn new_engine<D: Disk + Drop>(
     requires fewer { catalog.now.tolerated < catalog.now.sites }
     requires areas { IsAreas areas capacity }
     ensures ok { IfOk result (λ engine. IsNewEngine catalog.now capacity areas site disk engine.value) }
-    ensures room { IfOk result (λ engine. IsRoomy engine.value) }
     ensures back { IfErr result (λ back. (back.0 ≡ disk) × (back.1 ≡ unbegun.NoMemory)) }
 {
-    let mut engine = match Engine::new(alloc, disk, catalog, site, capacity, areas) {
+    let engine = match Engine::new(alloc, disk, catalog, site, capacity, areas) {
         Ok(engine) => engine,
         Err(disk) => return Err((disk, BeginFault::NoMemory)),
-    };
-    let Ok(()) = engine.make_room() else {
-        return Err((engine.into_disk(), BeginFault::NoMemory));
     };
     match Box::new(alloc, engine) {
         Ok(engine) => Ok(engine),
@@ -279,10 +278,12 @@ fn opening_of(alloc: Global, place: RecordPlace) -> Entry
     }
 }
 
-// An empty trail with places for the first entry and its record.
-fn open(alloc: Global) -> Mem<(Vec<Entry>, RecordPlace)>
+// An empty trail with memory for so many entries, and for the first one with its record.
+fn open(alloc: Global, room: u32) -> Mem<(Vec<Entry>, RecordPlace)>
     ensures entries { IfOk result (λ parts. parts.0.items ≡ []) }
     ensures place { IfOk result (λ parts. 0 < vec_capacity parts.0) }
+    ensures room { IfOk result (λ parts. room ≤ vec_capacity parts.0) }
 {
-    Ok((Vec::with_capacity(alloc, 1)?, RecordPlace::new(alloc)?))
+    let room = room.max(1) as usize;
+    Ok((Vec::with_capacity(alloc, room)?, RecordPlace::new(alloc)?))
 }

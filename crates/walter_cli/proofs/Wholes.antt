@@ -32,7 +32,7 @@ by_key Gives Holds none some (Some v) gives = some v gives
 pub reading_playable : (bytes : List ℕ) (s : Scenario) → IsReading bytes s → IsPlayable s
 reading_playable bytes s reading =
     let threads = reading.has_arms.has_threads in
-    let areas = threads.has_ticks.has_link.has_areas in
+    let areas = threads.has_ticks.has_link.has_room.has_areas in
     let capacity = areas.has_capacity in
     let clients = capacity.has_clients in
     let containers = clients.has_containers in

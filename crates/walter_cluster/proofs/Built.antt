@@ -126,6 +126,9 @@ module _ {D : Type 0} (g : Ghosts D) (t : Scenario) (disks : List D) (rows : Lis
     homes = homes_are;
   }
 
+  pub roomy_built : (homes : List SiteId) → AreRoomy t (record { cells = cells; homes = homes })
+  roomy_built homes i c at = (begun_at i c at).2.room
+
   pub told_built : (homes : List SiteId) (i : ℕ) (disk : D) → slice_get disks i ≡ Some disk → IsSome (g.known disk).reads → IsToldAt g i (record { cells = cells; homes = homes })
   told_built homes i disk at told c here = (begun.each i disk c at here).begun.node.told ∙ told
 

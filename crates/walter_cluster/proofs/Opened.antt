@@ -57,8 +57,9 @@ module _ {D : Type 0} (g : Ghosts D) (t : Scenario) where
   pub cell_begins : (i : ℕ) (disk : D) (row : List Sending) (column : List Receiving) (list : List (Option LineValue)) (c : CellValue D)
       → HasBegun g t.catalog t.capacity t.areas (site_at i) disk row column list c
       → Begins g {N = CellValue D} (λ (x : CellValue D). x.node.disk) (shape_of t) t.areas disk (Ok c)
+      → t.room ≤ places_in c.node
       → HasBegunAt g t i disk row column list c
-  cell_begins i disk row column list c begun begins =
+  cell_begins i disk row column list c begun begins room =
       let there = one_is c.node.disk begun.node.there in
       let same : (g.known there.0).faults ≡ (g.known disk).faults = of_one c.node.disk there.0 (λ (now : D). (g.known now).faults ≡ (g.known disk).faults) there.1 begins.faults in
       record {
@@ -72,6 +73,7 @@ module _ {D : Type 0} (g : Ghosts D) (t : Scenario) where
           arms = of_one c.node.disk there.0 (λ (now : D). (g.known now).arms ≡ (g.known disk).arms) there.1 begins.arms;
         };
         faultless = same;
+        room = room;
       }
 
   module _ (disks : List D) (rows : List (List Sending)) (columns : List (List Receiving)) (lists : List (List (Option LineValue))) where

@@ -8,7 +8,7 @@ use Rattle.walter_cell.specs.Builds.{IsOfCapacity}
 use Rattle.walter_cell.specs.Cells.{CellValue}
 use Rattle.walter_cell.specs.Cells as cell
 use Rattle.walter_cell.specs.Lines.{LineValue, is_here, IsLineAt}
-use Rattle.walter_cell.specs.Nodes.{arms_under, is_told}
+use Rattle.walter_cell.specs.Nodes.{arms_under, is_told, places_in}
 use Rattle.walter_cell.specs.Written.{AreWrittenAt}
 use Rattle.walter_checkpoint.specs.Areas.{Shape, shape_by}
 use Rattle.walter_disk.specs.declared.disk.Disk.{Ghosts}
@@ -106,6 +106,10 @@ module _ {D : Type 0} where
     pub sites : length bench.cells ≡ t.catalog.sites
     pub catalogs : AtEach bench.cells (λ i c. c.node.catalog ≡ t.catalog)
     pub homes : bench.homes ≡ map (λ (client : Client). client.site) t.clients
+
+  -- each site's trail has had memory for as many entries as the scenario asks for
+  abbrev pub AreRoomy : Scenario → BenchValue D → Type 0
+  AreRoomy t bench = AtEach bench.cells (λ i c. t.room ≤ places_in c.node)
 
   -- of the bytes of each client of the site the calls in the trail were read
   abbrev pub AreConnected : Scenario → SiteId → CellValue D → Type 0

@@ -3,6 +3,7 @@ use Rattle.std.specs.Prelude.{◌≡◌, ◌≤◌, ℕ, List, [], length, map, 
 use Rattle.walter_base.specs.declared.names.SiteId.{SiteId}
 use Rattle.walter_cell.specs.Cells.{CellValue, HasBegun}
 use Rattle.walter_cell.specs.Lines.{LineValue}
+use Rattle.walter_cell.specs.Nodes.{places_in}
 use Rattle.walter_disk.specs.declared.disk.Disk.{Ghosts}
 use Rattle.walter_engine.specs.Begins.{HasOnly, HasNoRecord}
 use Rattle.walter_lane.specs.Lanes.{Sending, Receiving}
@@ -50,6 +51,7 @@ module _ {D : Type 0} (g : Ghosts D) where
     pub now_is : c.node.disk ≡ Some now
     pub leaves : LeavesDisk g t disk now
     pub faultless : (g.known now).faults ≡ (g.known disk).faults
+    pub room : t.room ≤ places_in c.node
 
   pub record HaveBegun (t : Scenario) (disks : List D) (rows : List (List Sending)) (columns : List (List Receiving))
       (lists : List (List (Option LineValue))) (count : ℕ) (cells : List (CellValue D)) : Type 0 where

@@ -1,8 +1,8 @@
-ghost use Rattle.std.specs.Prelude.{◌≡◌, ◌≢◌, ◌<◌, ℕ, List, length, slice_get, Some, true, OnErr, OnOk, IfOk};
+ghost use Rattle.std.specs.Prelude.{◌≡◌, ◌≢◌, ◌<◌, ℕ, List, length, slice_get, Some, true, IsOk, OnErr, OnOk, IfOk};
 ghost use Rattle.walter_base.specs.declared.names.SiteId.{SiteId};
 ghost use Rattle.walter_cell.specs.Cells.{CellValue};
 ghost use Rattle.walter_cell.specs.Entries.{IsPlain};
-ghost use Rattle.walter_cell.specs.Lines.{CanFail, HasFaultAt, IsLineAt};
+ghost use Rattle.walter_cell.specs.Lines.{CanFail, HasFaultAt, IsLineAt, NextIsWrite};
 ghost use Rattle.walter_cell.specs.Nodes.{is_told};
 ghost use Rattle.walter_cluster.specs.Meetings.{HasArrived, HasGathered};
 ghost use Rattle.walter_cluster.specs.Pumps.{IsPumpAt, PumpsAt};
@@ -78,6 +78,9 @@ impl<D: Disk + Drop, S: Source + Drop, K: Sink + Drop> Bench<D, S, K> {
         ensures drops { (home : SiteId) → slice_get self.old.homes number ≡ Some home
             → Drops D.Disk home self.old self.new }
         ensures kept { OnErr result (trails_of self.new.cells ≡ trails_of self.old.cells) }
+        // Where the trail there has memory for the entry, only the bytes of a Write may want more.
+        ensures roomy { OnErr result ((home : SiteId) (c : CellValue D) → slice_get self.old.homes number ≡ Some home
+            → slice_get self.old.cells home.0 ≡ Some c → 0 < c.node.room → NextIsWrite c.lines number) }
         ensures arms { KeepsArms (moment_of D.Disk self.old.cells) (moment_of D.Disk self.new.cells) }
     {
         let home = self.homes[number as usize];
@@ -124,6 +127,7 @@ impl<D: Disk + Drop, S: Source + Drop, K: Sink + Drop> Bench<D, S, K> {
         ensures drops { Drops D.Disk at self.old self.new }
         ensures kept { OnErr result (trails_of self.new.cells ≡ trails_of self.old.cells) }
         ensures arms { KeepsArms (moment_of D.Disk self.old.cells) (moment_of D.Disk self.new.cells) }
+        ensures roomy { (c : CellValue D) → slice_get self.old.cells at.0 ≡ Some c → 0 < c.node.room → IsOk result }
     {
         self.act(at, Event::Given(Input::Advance { from }))
     }
@@ -137,6 +141,7 @@ impl<D: Disk + Drop, S: Source + Drop, K: Sink + Drop> Bench<D, S, K> {
         ensures drops { Drops D.Disk site self.old self.new }
         ensures kept { OnErr result (trails_of self.new.cells ≡ trails_of self.old.cells) }
         ensures arms { KeepsArms (moment_of D.Disk self.old.cells) (moment_of D.Disk self.new.cells) }
+        ensures roomy { (c : CellValue D) → slice_get self.old.cells site.0 ≡ Some c → 0 < c.node.room → IsOk result }
     {
         self.act(site, Event::Given(Input::Tick))
     }
@@ -150,6 +155,7 @@ impl<D: Disk + Drop, S: Source + Drop, K: Sink + Drop> Bench<D, S, K> {
         ensures drops { Drops D.Disk site self.old self.new }
         ensures kept { OnErr result (trails_of self.new.cells ≡ trails_of self.old.cells) }
         ensures arms { KeepsArms (moment_of D.Disk self.old.cells) (moment_of D.Disk self.new.cells) }
+        ensures roomy { (c : CellValue D) → slice_get self.old.cells site.0 ≡ Some c → 0 < c.node.room → IsOk result }
     {
         self.act(site, Event::Stop)
     }
@@ -163,6 +169,7 @@ impl<D: Disk + Drop, S: Source + Drop, K: Sink + Drop> Bench<D, S, K> {
         ensures drops { Drops D.Disk site self.old self.new }
         ensures kept { OnErr result (trails_of self.new.cells ≡ trails_of self.old.cells) }
         ensures arms { KeepsArms (moment_of D.Disk self.old.cells) (moment_of D.Disk self.new.cells) }
+        ensures roomy { (c : CellValue D) → slice_get self.old.cells site.0 ≡ Some c → 0 < c.node.room → IsOk result }
     {
         self.act(site, Event::Restart)
     }
@@ -204,6 +211,7 @@ impl<D: Disk + Drop, S: Source + Drop, K: Sink + Drop> Bench<D, S, K> {
         ensures drops { Drops D.Disk site self.old self.new }
         ensures kept { OnErr result (trails_of self.new.cells ≡ trails_of self.old.cells) }
         ensures arms { KeepsArms (moment_of D.Disk self.old.cells) (moment_of D.Disk self.new.cells) }
+        ensures roomy { (c : CellValue D) → slice_get self.old.cells site.0 ≡ Some c → 0 < c.node.room → IsOk result }
     {
         self.cells[usize::from(site.0)].act(event)
     }

@@ -3,7 +3,7 @@ ghost use Rattle.walter_base.specs.Vectors.{most_sites};
 ghost use Rattle.walter_scenario.specs.declared.scenario.Client.{Client};
 ghost use Rattle.walter_cell.specs.Lines.{LineValue};
 ghost use Rattle.walter_checkpoint.specs.Loads.{IsAreas};
-ghost use Rattle.walter_cluster.specs.Benches.{IsOf, IsToldAt, AreAllConnected, AreAllAnswered, AreMet, disks_of};
+ghost use Rattle.walter_cluster.specs.Benches.{IsOf, IsToldAt, AreRoomy, AreAllConnected, AreAllAnswered, AreMet, disks_of};
 ghost use Rattle.walter_cluster.specs.Lanes.{rows_in, columns_in};
 ghost use Rattle.walter_cluster.specs.Seats.{lists_in};
 ghost use Rattle.walter_cluster.specs.Builds.{AreUnread, AreUnwritten, AreUnarmed, LeavesDisks, HadNoRecords, AreLaid, IsWhyNone};
@@ -68,6 +68,7 @@ pub fn build<D: Disk + Drop, S: Source + Drop, K: Sink + Drop>(
     requires disks { length disks.items ≡ scenario.now.catalog.sites }
     requires conns { length conns.items ≡ length scenario.now.clients }
     ensures of { IfOk result (IsOf scenario.now) }
+    ensures roomy { IfOk result (AreRoomy scenario.now) }
     ensures told { (i : ℕ) (disk : D) → slice_get disks.items i ≡ Some disk → IsSome (D.known disk).reads
         → IfOk result (IsToldAt D.Disk i) }
     ensures connected { AreUnread scenario.now.clients conns.items → IfOk result (AreAllConnected scenario.now) }
@@ -185,6 +186,7 @@ fn begin_all<D: Disk + Drop, S: Source + Drop, K: Sink + Drop>(
             site,
             scenario.capacity,
             scenario.areas,
+            scenario.room,
             outs,
             ins,
             lines,

@@ -1,6 +1,6 @@
 -- What an event that loads no journal comes to at an engine.
 use Rattle.std.proofs.Common.{◌≡◌, List, Bool, true, false, Option, Some, None, refl, ap, sym, ◌∙◌, subst, inl, inr}
-use Rattle.std.specs.Prelude.{◌≢◌, IfSome, is_some}
+use Rattle.std.specs.Prelude.{IfSome, is_some}
 use Rattle.walter_base.specs.declared.catalog.Catalog.{Catalog}
 use Rattle.walter_base.specs.declared.message.Record.{Record}
 use Rattle.walter_base.specs.declared.names.SiteId.{SiteId}
@@ -14,12 +14,9 @@ use Rattle.walter_engine.proofs.Spelled.{spelled_after}
 use Rattle.walter_engine.proofs.Written.{holds_none}
 use Rattle.walter_engine.specs.Effects.{HasCome}
 use Rattle.walter_engine.specs.Engines.{Stands, catalog_in, layout_in}
-use Rattle.walter_machine.specs.Steps.{IsStep, record_of}
-use Rattle.walter_machine.specs.declared.ready.Step.{Step}
-use Rattle.walter_machine.specs.declared.ready.Step.TheVariants.{Answer, Apply, Fall, Rise}
 use Rattle.walter_rules.specs.declared.entry.Came.{Came}
 use Rattle.walter_rules.specs.declared.event.Event.{Event}
-use Rattle.walter_rules.specs.declared.event.Event.TheVariants.{Given, Stop, Restart}
+use Rattle.walter_rules.specs.declared.event.Event.TheVariants.{Stop, Restart}
 use Rattle.walter_machine.specs.Machines.{HasStanding, IsCounted}
 use Rattle.walter_machine.specs.declared.machine.Machine.{Machine}
 use Rattle.walter_record.specs.Spelling.{HasRecordSpelling}
@@ -30,8 +27,7 @@ use Rattle.walter_rules.specs.Allowed.{IsKind, boots}
 use Rattle.walter_rules.specs.Layouts.{Layout}
 use Rattle.walter_rules.specs.Rule.{rule, stop_rule}
 use Rattle.walter_rules.specs.Standing.{Standing, settled, stands_after, records_after, flight_after}
-use Rattle.walter_rules.specs.Trails.{Comes, IsFound, TakesMemory}
-use Rattle.walter_tables.specs.declared.tables.Tables.{Tables}
+use Rattle.walter_rules.specs.Trails.{Comes, IsFound}
 
 -- what is so of equal parts
 pub same_parts : (P : Catalog → SiteId → Type 0) (catalog catalog' : Catalog) (i i' : SiteId) → catalog' ≡ catalog
@@ -52,21 +48,6 @@ stop_brings catalog i S = at S.up
     at : (up : Bool) → (stop_rule up).wrote ≡ None
     at true = refl
     at false = refl
-
--- at a site that is down only a restart takes memory, or brings a record
-pub takes_none : (up : Bool) (event : Event) → up ≡ false → event ≢ Restart → TakesMemory up event → ⊥
-takes_none true event down stays takes = absurd (cc)
-takes_none false (Given input) down stays takes = takes
-takes_none false Stop down stays takes = takes
-takes_none false Restart down stays takes = stays refl
-
-pub brings_none : (catalog : Catalog) (i : SiteId) (site : Option Tables) (S : Standing) (event : Event) (step : Step)
-    → site ≡ None → event ≢ Restart → IsStep catalog i site S event step → record_of step ≡ None
-brings_none catalog i (Some tables) S event step down stays is = absurd (cc)
-brings_none catalog i None S event (Answer outcome) down stays is = refl
-brings_none catalog i None S event (Apply plan) down stays is = absurd is
-brings_none catalog i None S event Fall down stays is = refl
-brings_none catalog i None S event (Rise tables epoch) down stays is = absurd (stays is.restart)
 
 abbrev pub is_full : Outcome → Bool
 is_full (Full need left) = true

@@ -7,7 +7,7 @@ use Rattle.walter_disk.specs.declared.disk.Disk.{Ghosts}
 use Rattle.walter_engine.specs.declared.engine.Engine.{Engine}
 use Rattle.walter_engine.specs.Contents.{AreSpelled}
 use Rattle.walter_engine.specs.Stores.{disk_under, IsStored}
-use Rattle.walter_machine.specs.Machines.{HasStanding, HasRoom}
+use Rattle.walter_machine.specs.Machines.{HasStanding}
 use Rattle.walter_machine.specs.Machines as machine
 use Rattle.walter_rules.specs.Layouts.{Layout, one_area, two_areas}
 use Rattle.walter_rules.specs.Standing.{Standing, unmade}
@@ -38,10 +38,6 @@ disk_in engine = disk_under engine.store
 
 abbrev pub is_up : {D : Type 0} {g : Ghosts D} → Engine D g → Bool
 is_up engine = machine.is_up engine.machine
-
--- there is memory for what an event leaves
-abbrev pub IsRoomy : {D : Type 0} {g : Ghosts D} → Engine D g → Type 0
-IsRoomy engine = HasRoom engine.machine
 
 -- nothing has happened to the site
 abbrev pub IsFresh : {D : Type 0} {g : Ghosts D} → Engine D g → Type 0

@@ -6,7 +6,7 @@ ghost use Rattle.walter_engine.specs.Firsts.{IsAnswerTo, IsBegunOver, MayHaveFir
 ghost use Rattle.walter_engine.specs.Restarts.{left_over};
 ghost use Rattle.walter_engine.specs.Stores.{IsLeft, layout_of};
 ghost use Rattle.walter_checkpoint.specs.Books.{disk_of, shape_of, GoesOnBehind, IsReady, HasPackRoom, StandsFor};
-ghost use Rattle.walter_machine.specs.Machines.{catalog_in, site_in, tables_in, is_up, HasStanding, HasRoom, IsSameSite};
+ghost use Rattle.walter_machine.specs.Machines.{catalog_in, site_in, tables_in, is_up, HasStanding, IsSameSite};
 ghost use Rattle.walter_rules.specs.Standing.{unmade};
 ghost use Rattle.walter_rules.specs.Trails.{standing, opening};
 
@@ -26,7 +26,6 @@ pub(crate) fn begin_over<D: Disk>(
     book: &mut Book<D>,
     bodies: &[Vec<u8>],
 ) -> Result<(), BeginFault>
-    requires room { HasRoom machine.old }
     requires down { tables_in machine.old ≡ None }
     requires place { 10 ≤ left_over (layout_of book.old) [] }
     requires sites { (shape_of book.old).sites ≡ (catalog_in machine.old).sites }

@@ -39,7 +39,7 @@ impl<D: Disk + Drop> Engine<D> {
     ghost use Rattle.walter_engine.specs.Contents.{AreSpelled, MayHaveNext};
     ghost use Rattle.walter_engine.specs.Effects.{HasCome, HasTaken, IsRefusedFor, AreCalls, AreCallsToRestart};
     ghost use Rattle.walter_engine.specs.Engines.{catalog_in, site_in, capacity_in, layout_for, layout_in, shape_in, disk_in, is_up, OfDisk, OfDisks};
-    ghost use Rattle.walter_engine.specs.Engines.{IsFresh, IsOfSameSite, IsRoomy, IsSameEngine, Stands};
+    ghost use Rattle.walter_engine.specs.Engines.{IsFresh, IsOfSameSite, IsSameEngine, Stands};
     ghost use Rattle.walter_engine.specs.Restarts.{RestartsOver};
     ghost use Rattle.walter_engine.specs.Stores.{IsOnDisk};
     ghost use Rattle.walter_checkpoint.specs.Loads.{calls_of_load};
@@ -144,22 +144,9 @@ impl<D: Disk + Drop> Engine<D> {
         armed
     }
 
-    /// Takes the memory that any event leaves a site with.
-    pub fn make_room(&mut self) -> Mem<()>
-        ensures room { OnOk result (IsRoomy self.new) }
-        ensures stands { (S : Standing) → Stands self.old S → Stands self.new S }
-        ensures fresh { IsFresh self.old → IsFresh self.new }
-        ensures disk { disk_in self.new ≡ disk_in self.old }
-        ensures up { is_up self.new ≡ is_up self.old }
-        ensures engine { IsSameEngine self.old self.new }
-    {
-        self.machine.make_room()
-    }
-
     /// An event comes to the site. It takes all its memory before it writes to the journal.
     pub fn take(&mut self, event: &Event) -> Effect
         requires sized { IsSizedEvent (catalog_in self.old).sites event.now }
-        requires room { IsRoomy self.old }
         ensures comes { (S : Standing) → Stands self.old S
             → HasCome (catalog_in self.old) (layout_in self.old) (site_in self.old) S event.now
             result.came result.refused self.new }
@@ -207,7 +194,6 @@ impl<D: Disk + Drop> Engine<D> {
     // An event comes to a site that is up.
     fn act(&mut self, event: &Event) -> Effect
         requires sized { IsSizedEvent (catalog_in self.old).sites event.now }
-        requires room { IsRoomy self.old }
         requires up { is_up self.old ≡ true }
         ensures taken { HasTaken self.old self.new event.now result }
         ensures device { OfDisks self.old self.new (λ old new.
@@ -235,30 +221,22 @@ impl<D: Disk + Drop> Engine<D> {
     }
 
     // What comes to a site that is down and isn't to restart.
-    fn decline(&mut self, event: &Event) -> Effect
-        requires sized { IsSizedEvent (catalog_in self.old).sites event.now }
-        requires room { IsRoomy self.old }
-        requires down { is_up self.old ≡ false }
+    fn decline(&self, event: &Event) -> Effect
+        requires down { is_up self.now ≡ false }
         requires stays { event.now ≢ happens.Restart }
-        ensures taken { HasTaken self.old self.new event.now result }
-        ensures device { OfDisks self.old self.new (λ old new.
+        ensures taken { HasTaken self.now self.now event.now result }
+        ensures device { OfDisks self.now self.now (λ old new.
             AreCalls result.came (D.device_calls old) (D.device_calls new)) }
-        ensures disk { disk_in self.new ≡ disk_in self.old }
     {
-        let Ok(ready) = self.machine.prepare(event) else {
-            unreachable!()
-        };
-        let (came, frames) = self.machine.keep(event, ready);
         Effect {
-            came,
-            frames,
+            came: self.machine.decline(event),
+            frames: Vec::new(self.alloc),
             refused: None,
         }
     }
 
     // The site is made anew from its journal.
     fn restart(&mut self) -> Effect
-        requires room { IsRoomy self.old }
         requires down { is_up self.old ≡ false }
         ensures taken { HasTaken self.old self.new happens.Restart result }
         ensures restarts { OfDisk self.old (λ disk. IfSome (D.known disk).reads (λ bytes.
@@ -308,7 +286,6 @@ impl<D: Disk + Drop> Engine<D> {
     pub fn begin(&mut self) -> Result<(), BeginFault>
         requires down { is_up self.old ≡ false }
         requires place { 19 ≤ capacity_in self.old }
-        requires room { IsRoomy self.old }
         ensures up { is_up self.new ≡ is_ok result }
         // where nothing has happened to the site, and the disk tells what it holds
         ensures stands { IsFresh self.old → OfDisk self.old (λ disk. IsSome (D.known disk).reads)

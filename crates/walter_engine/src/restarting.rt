@@ -1,4 +1,4 @@
-ghost use Rattle.std.specs.Prelude.{◌≡◌, ◌+◌, ◌≤◌, [], None, false, map, length, is_some, IfSome, OnErr, OnOk};
+ghost use Rattle.std.specs.Prelude.{◌≡◌, ◌+◌, ◌<◌, ◌≤◌, ◌^◌, [], None, false, map, length, is_some, IfSome, OnErr, OnOk};
 ghost use Rattle.walter_disk.specs.Disks.{Fails};
 ghost use Rattle.walter_disk.specs.Images.{LeavesOnly};
 ghost use Rattle.walter_engine.specs.Contents.{HasBodies, MayHaveNext};
@@ -8,7 +8,7 @@ ghost use Rattle.walter_checkpoint.specs.Books.{disk_of, shape_of, GoesOnBehind,
 ghost use Rattle.walter_engine.specs.Restarts.{ComesOf, left_over};
 ghost use Rattle.walter_engine.specs.Stores.{layout_of};
 ghost use Rattle.walter_machine.specs.Comings.{IsSized, IsFaulty};
-ghost use Rattle.walter_machine.specs.Machines.{catalog_in, site_in, tables_in, records_in, is_up, HasStanding, HasRoom, IsSameSite};
+ghost use Rattle.walter_machine.specs.Machines.{catalog_in, site_in, tables_in, records_in, is_up, HasStanding, IsSameSite};
 ghost use Rattle.walter_rules.specs.Layouts.{Layout};
 ghost use Rattle.walter_rules.specs.Standing.{Standing, up_after};
 ghost use Rattle.walter_rules.specs.declared.event.Event.TheVariants as event;
@@ -31,8 +31,8 @@ pub(crate) fn raise<D: Disk>(
     book: &mut Book<D>,
     bodies: &[Vec<u8>],
 ) -> (Came, Option<RefusedRestart>)
-    requires room { HasRoom machine.old }
     requires down { tables_in machine.old ≡ None }
+    requires countable { records_in machine.old + 1 < 2 ^ 64 }
     requires sites { (shape_of book.old).sites ≡ (catalog_in machine.old).sites }
     requires pack_room { HasPackRoom book.old }
     requires ready { IsReady book.old (map (λ body. body.items) bodies.now) }
@@ -66,6 +66,9 @@ pub(crate) fn raise<D: Disk>(
     let ready = match ready_over(alloc, machine.catalog(), machine.id(), bodies) {
         Ok(ready) => ready,
         Err(why) => return (machine.rest(hindrance(why)), why),
+    };
+    let Ok(()) = machine.make_room() else {
+        return (machine.want(&Event::Restart), None);
     };
     let Ok(body) = spell_any(alloc, book, &ready) else {
         return (machine.want(&Event::Restart), None);

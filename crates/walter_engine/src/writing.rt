@@ -1,4 +1,4 @@
-ghost use Rattle.std.specs.Prelude.{◌≡◌, ℕ, List, [], None, length, map, is_some, IsSome, IfOk, IfSome, OnErr, OnOk};
+ghost use Rattle.std.specs.Prelude.{◌≡◌, ℕ, List, [], None, false, length, map, is_some, IsSome, IfOk, IfSome, OnErr, OnOk};
 ghost use Rattle.walter_base.specs.Sizes.{CanBeRecorded};
 ghost use Rattle.walter_disk.specs.Images.{LeavesOnly};
 ghost use Rattle.walter_engine.specs.Contents.{AreSpelled, MayHaveNext};
@@ -7,7 +7,7 @@ ghost use Rattle.walter_engine.specs.Stores.{IsKept, IsLeft};
 ghost use Rattle.walter_checkpoint.specs.Books.{disk_of, left_of, HasPackRoom, HasRoomBehind, IsReady};
 ghost use Rattle.walter_engine.specs.Writings.{HasRoomIfAny, IsSameButRoom, IsSpelling, IsSpellingIfAny, IsOutcomeOf};
 ghost use Rattle.walter_machine.specs.Comings.{IsSized, IsFaulty};
-ghost use Rattle.walter_machine.specs.Machines.{catalog_in, site_in, tables_in, is_up, HasStanding, HasRoom, IsCounted, IsSameSite};
+ghost use Rattle.walter_machine.specs.Machines.{catalog_in, site_in, tables_in, is_up, HasStanding, HasRoom, IsCountable, IsCounted, IsSameSite};
 ghost use Rattle.walter_machine.specs.Readiness.{IsReadyFor, IsReadyAnyway, rec_in, came_in};
 ghost use Rattle.walter_packet.specs.Framed.{frame_of};
 ghost use Rattle.walter_rules.specs.Layouts.{Layout};
@@ -33,7 +33,8 @@ pub(crate) fn write<D: Disk>(
     event: &Event,
     ready: Ready,
 ) -> (Came, Vec<Framed>)
-    requires room { HasRoom machine.old }
+    requires room { is_up machine.old ≡ false → HasRoom machine.old }
+    requires countable { IsCountable machine.old ready }
     requires anyway { IsReadyAnyway (catalog_in machine.old) (site_in machine.old) (tables_in machine.old) event.now ready }
     ensures comes { (layout : Layout) (S : Standing) → HasStanding machine.old S → IsCounted machine.old S (rec_in ready)
         → IsReadyFor (catalog_in machine.old) (site_in machine.old) (tables_in machine.old) S event.now ready
@@ -82,7 +83,8 @@ pub(crate) fn put<D: Disk>(
     ready: Ready,
     body: Option<Bytes>,
 ) -> (Came, Vec<Framed>)
-    requires room { HasRoom machine.old }
+    requires room { is_up machine.old ≡ false → HasRoom machine.old }
+    requires countable { IsCountable machine.old ready }
     requires anyway { IsReadyAnyway (catalog_in machine.old) (site_in machine.old) (tables_in machine.old) event.now ready }
     requires spelled { IsSpellingIfAny book.old (rec_in ready) body }
     ensures comes { (layout : Layout) (S : Standing) → HasStanding machine.old S → IsCounted machine.old S (rec_in ready)

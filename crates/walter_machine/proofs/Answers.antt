@@ -1,5 +1,5 @@
 -- What is ready where an event is answered without a plan.
-use Rattle.std.proofs.Common.{◌≡◌, ◌∙◌, Bool, true, false, [], map, Option, Some, None, Ok, Err, refl, sym, ap, subst}
+use Rattle.std.proofs.Common.{◌≡◌, ◌∙◌, ℕ, Bool, true, false, [], map, Option, Some, None, Ok, Err, refl, sym, ap, subst}
 use Rattle.std.specs.Prelude.{◌≢◌, IfSome, is_some}
 use Rattle.walter_base.specs.declared.catalog.Catalog.{Catalog}
 use Rattle.walter_base.specs.declared.message.Refusal.TheVariants.{Gone}
@@ -12,8 +12,9 @@ use Rattle.walter_machine.specs.declared.ready.Step.TheVariants.{Answer, Fall}
 use Rattle.walter_machine.specs.Comings.{IsSized, is_faulty}
 use Rattle.walter_machine.specs.Debts.{IsDebtOf, gone_first}
 use Rattle.walter_machine.specs.Readiness.{IsReadyFor}
-use Rattle.walter_machine.specs.States.{CanBeNext, IsState}
+use Rattle.walter_machine.specs.States.{CanBeNext}
 use Rattle.walter_machine.specs.Steps.{came_of, outcome_of, record_of, sends_of, expected_by, IsIdle, IsStep}
+use Rattle.walter_machine.proofs.Behind.{idle_up}
 use Rattle.walter_machine.proofs.Sizes.{none_sent, faultless}
 use Rattle.walter_packet.specs.Framed.{frame_of}
 use Rattle.walter_rules.specs.declared.event.Event.{Event}
@@ -21,13 +22,14 @@ use Rattle.walter_rules.specs.declared.event.Event.TheVariants.{Given, Stop, Res
 use Rattle.walter_rules.specs.declared.event.Input.{Input}
 use Rattle.walter_rules.specs.declared.event.Input.TheVariants.{Call, Deliver, Advance, Tick}
 use Rattle.walter_rules.specs.declared.outcome.Outcome.{Outcome}
-use Rattle.walter_rules.specs.declared.outcome.Outcome.TheVariants.{Passed, Down}
+use Rattle.walter_rules.specs.declared.outcome.Outcome.TheVariants.{Passed}
 use Rattle.walter_rules.specs.Calls.{Expected, refuses, call_rule, if_told}
 use Rattle.walter_rules.specs.Knowledge.{session_of}
+use Rattle.walter_rules.specs.Layouts.{Layout, FitsIn}
 use Rattle.walter_rules.specs.Rule.{rule, given_rule, given_down, rule_where, stop_rule, restart_rule}
 use Rattle.walter_rules.specs.Sending.{Send}
-use Rattle.walter_rules.specs.Standing.{Standing}
-use Rattle.walter_rules.specs.Trails.{TakesMemory}
+use Rattle.walter_rules.specs.Standing.{Standing, told, up_after}
+use Rattle.walter_rules.specs.Trails.{Comes, IsPutOut, TakesMemory, only}
 use Rattle.walter_site.specs.Members.{IsShortOutcome}
 use Rattle.walter_tables.specs.declared.tables.Tables.{Tables}
 
@@ -57,42 +59,77 @@ answer_ready catalog i site S event outcome ruled idle short ready is framed = r
 
 -- ---- at a site that is down
 
-rest_expects : (input : Input) → expects (given_down input).outcome ≡ given_down input
-rest_expects (Call client (Err bad)) = refl
-rest_expects (Call client (Ok request)) = refl
-rest_expects (Deliver from number packet) = refl
-rest_expects (Advance from) = refl
-rest_expects Tick = refl
+-- nothing is done there, and no client is told of a transaction
+pub record Rests (catalog : Catalog) (i : SiteId) (S : Standing) (event : Event) (ruled : Expected) : Type 0 where
+  pub alone : ruled ≡ expects ruled.outcome
+  pub idle : IsIdle catalog i S event ruled.outcome
+  pub short : IsShortOutcome ruled.outcome
+  pub untold : (gone : ℕ → Option Tid) (client : ℕ) → told event ruled.outcome gone client ≡ gone client
 
-rest_short : (input : Input) → IsShortOutcome (given_down input).outcome
-rest_short (Call client (Err bad)) = tt
-rest_short (Call client (Ok request)) = tt
-rest_short (Deliver from number packet) = tt
-rest_short (Advance from) = tt
-rest_short Tick = tt
+input_rests : (catalog : Catalog) (i : SiteId) (S : Standing) (input : Input)
+    → Rests catalog i S (Given input) (given_down input)
+input_rests catalog i S (Call client (Err bad)) = record {
+  alone = refl;
+  idle = record { stays = refl; rests = refl; knows = refl; flies = refl };
+  short = tt;
+  untold = λ gone c. refl;
+}
+input_rests catalog i S (Call client (Ok request)) = record {
+  alone = refl;
+  idle = record { stays = refl; rests = refl; knows = refl; flies = refl };
+  short = tt;
+  untold = λ gone c. refl;
+}
+input_rests catalog i S (Deliver from number packet) = record {
+  alone = refl;
+  idle = record { stays = refl; rests = refl; knows = refl; flies = refl };
+  short = tt;
+  untold = λ gone c. refl;
+}
+input_rests catalog i S (Advance from) = record {
+  alone = refl;
+  idle = record { stays = refl; rests = refl; knows = refl; flies = refl };
+  short = tt;
+  untold = λ gone c. refl;
+}
+input_rests catalog i S Tick = record {
+  alone = refl;
+  idle = record { stays = refl; rests = refl; knows = refl; flies = refl };
+  short = tt;
+  untold = λ gone c. refl;
+}
 
-rest_idle : (catalog : Catalog) (i : SiteId) (S : Standing) (input : Input)
-    → IsIdle catalog i S (Given input) (given_down input).outcome
-rest_idle catalog i S (Call client (Err bad)) = record { stays = refl; rests = refl; knows = refl; flies = refl }
-rest_idle catalog i S (Call client (Ok request)) = record { stays = refl; rests = refl; knows = refl; flies = refl }
-rest_idle catalog i S (Deliver from number packet) = record { stays = refl; rests = refl; knows = refl; flies = refl }
-rest_idle catalog i S (Advance from) = record { stays = refl; rests = refl; knows = refl; flies = refl }
-rest_idle catalog i S Tick = record { stays = refl; rests = refl; knows = refl; flies = refl }
+-- whatever comes that is no restart
+pub rests : (catalog : Catalog) (i : SiteId) (S : Standing) (event : Event) → S.up ≡ false → event ≢ Restart
+    → Rests catalog i S event (rule catalog i S event)
+rests catalog i S (Given input) down stays =
+    subst (λ (up : Bool). Rests catalog i S (Given input) (rule_where up catalog i S input)) (sym down)
+    (input_rests catalog i S input)
+rests catalog i S Stop down stays =
+    subst (λ (up : Bool). Rests catalog i S Stop (stop_rule up)) (sym down) (record {
+      alone = refl;
+      idle = record { stays = refl; rests = refl; knows = refl; flies = refl };
+      short = tt;
+      untold = λ gone c. refl;
+    })
+rests catalog i S Restart down stays = absurd (stays refl)
 
--- where an input comes
-pub rest_ready : (catalog : Catalog) (i : SiteId) (site : Option Tables) (S : Standing) (input : Input) → S.up ≡ false
-    → IsReadyBy catalog i site S (Given input) (Answer (given_down input).outcome)
-rest_ready catalog i site S input down =
-    answer_ready catalog i site S (Given input) (given_down input).outcome
-    (rest_expects input ∙ sym (ap (λ (up : Bool). rule_where up catalog i S input) down))
-    (rest_idle catalog i S input) (rest_short input)
+-- so it comes to what the rule says, and the site is down still
+module _ (catalog : Catalog) (i : SiteId) (S : Standing) (event : Event)
+    (rests : Rests catalog i S event (rule catalog i S event)) where
+  pub rest_comes : (layout : Layout) → Comes catalog layout i S event (only (rule catalog i S event).outcome)
+  rest_comes layout =
+      Comes.ruled (subst (λ (x : Expected). IfSome x.wrote (FitsIn layout S)) (sym rests.alone) tt) (record {
+        outcome = refl;
+        wrote = sym (ap (λ (x : Expected). x.wrote) rests.alone);
+        flight = refl;
+        sends = subst (λ (x : Expected). IsPutOut S.carried x.sends [] 0) (sym rests.alone) (IsPutOut.all_out S.carried);
+      })
 
--- where it is stopped
-pub down_ready : (catalog : Catalog) (i : SiteId) (site : Option Tables) (S : Standing) → S.up ≡ false
-    → IsReadyBy catalog i site S Stop (Answer Down)
-down_ready catalog i site S down =
-    answer_ready catalog i site S Stop Down (sym (ap stop_rule down))
-    (record { stays = refl; rests = refl; knows = refl; flies = refl }) tt
+  pub rest_down : (outcome : Outcome) → outcome ≡ (rule catalog i S event).outcome → up_after event outcome false ≡ false
+  rest_down outcome is =
+      subst (λ (o : Outcome). up_after event o false ≡ false) (sym is)
+      (sym (idle_up catalog i S event (rule catalog i S event).outcome false rests.idle))
 
 -- ---- at a site that is up
 
@@ -145,14 +182,3 @@ gone_ready catalog i site S input owing tid up owes first =
     answer_ready catalog i site S (Given input) (refuses (Gone tid)).outcome
     (sym (ap (λ (b : Bool). rule_where b catalog i S input) up ∙ gone_rule catalog i S input owing tid owes first))
     (gone_idle catalog i S input owing tid first) tt
-
--- ---- by the tables
-
-pub up_of : (site : Option Tables) (S : Standing) → IsState S site → is_some site ≡ true → S.up ≡ true
-up_of None S state there = absurd cc
-up_of (Some tables) S state there = state.up
-
--- a site that restarts is up, where one that is down doesn't
-pub up_by : (up : Bool) (event : Event) → (up ≡ false → event ≢ Restart) → event ≡ Restart → up ≡ true
-up_by true event raised is = refl
-up_by false event raised is = absurd (raised refl is)

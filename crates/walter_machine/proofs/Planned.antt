@@ -24,7 +24,6 @@ use Rattle.walter_machine.proofs.Records.{recordable}
 use Rattle.walter_machine.proofs.Sizes.{faultless, none_sent}
 use Rattle.walter_packet.specs.Framed.{frame_of}
 use Rattle.walter_packet.specs.Spelling.{HasPacketSpelling}
-use Rattle.walter_rules.specs.declared.event.Event.{Event}
 use Rattle.walter_rules.specs.declared.event.Event.TheVariants.{Given, Restart}
 use Rattle.walter_rules.specs.declared.event.Input.{Input}
 use Rattle.walter_rules.specs.declared.event.Input.TheVariants.{Call, Deliver, Advance, Tick}
@@ -183,10 +182,7 @@ pub if_ok : {T E : Type 0} (r : Result T E) (P Q : T → Type 0) → ((x : T) �
 if_ok (Ok x) P Q so p = so x p
 if_ok (Err e) P Q so p = tt
 
--- what is ready at the site of the tables is so at this one
-pub ready_here : {E : Type 0} (site : Option Tables) (S : Standing) (event : Event) (old : Tables) (catalog : Catalog)
-    (i : SiteId) → IsOf catalog i old → (r : Result Ready E)
-    → IfOk r (IsReadyFor (catalog_of old) (site_of old) site S event) → IfOk r (IsReadyFor catalog i site S event)
-ready_here site S event old catalog i of r ready =
-    subst (λ (k : SiteId). IfOk r (IsReadyFor catalog k site S event)) of.0
-    (subst (λ (c : Catalog). IfOk r (IsReadyFor c (site_of old) site S event)) of.1 ready)
+-- what is so of the site of the tables is so of this one
+pub at_site : (P : Catalog → SiteId → Type 0) (t : Tables) (catalog : Catalog) (i : SiteId) → IsOf catalog i t
+    → P (catalog_of t) (site_of t) → P catalog i
+at_site P t catalog i of so = subst (λ (k : SiteId). P catalog k) of.0 (subst (λ (c : Catalog). P c (site_of t)) of.1 so)

@@ -1,10 +1,11 @@
 -- How a machine stands behind a step, a fault, and what came to nothing.
-use Rattle.std.proofs.Common.{◌≡◌, ◌∙◌, ◌<◌, ◌≤◌, ◌+◌, ◌∷◌, [], ℕ, true, false, List, length, Option, Some, None, refl, sym, ap, subst, arith, ◌⊎◌, inl, inr}
+use Rattle.std.proofs.Common.{◌≡◌, ◌∙◌, ◌<◌, ◌≤◌, ◌+◌, ◌∷◌, [], ℕ, Bool, true, false, List, length, Option, Some, None, refl, sym, ap, subst, arith, ◌⊎◌, inl, inr}
 use Rattle.std.specs.Prelude.{IfSome, IsSome, is_some}
 use Rattle.std.proofs.lemmas.List.{length-append}
 use Rattle.walter_base.specs.declared.catalog.Catalog.{Catalog}
 use Rattle.walter_base.specs.declared.message.Record.{Record}
 use Rattle.walter_base.specs.declared.names.SiteId.{SiteId}
+use Rattle.walter_base.specs.declared.names.Tid.{Tid}
 use Rattle.walter_base.specs.declared.message.Record.TheVariants.{Boot}
 use Rattle.walter_base.specs.ByClient.{of_client}
 use Rattle.walter_base.specs.Sizes.{CanBeRecorded}
@@ -13,8 +14,8 @@ use Rattle.walter_machine.specs.declared.ready.Ready.{Ready}
 use Rattle.walter_machine.specs.declared.ready.Step.{Step}
 use Rattle.walter_machine.specs.declared.ready.Step.TheVariants.{Answer, Apply, Fall, Rise}
 use Rattle.walter_machine.specs.Comings.{IsRest}
-use Rattle.walter_machine.specs.Debts.{owed_by, sessions_lost}
-use Rattle.walter_machine.specs.Machines.{HasStanding, IsCounted, AreFound, Settles}
+use Rattle.walter_machine.specs.Debts.{IsDebtOf, owed_by, sessions_lost}
+use Rattle.walter_machine.specs.Machines.{is_up, HasRoom, HasStanding, IsCounted, AreFound, Settles}
 use Rattle.walter_machine.specs.Readiness.{IsReadyFor, rec_in, came_in}
 use Rattle.walter_machine.specs.States.{AreTold, CanBeNext, IsOf, IsState}
 use Rattle.walter_machine.specs.Steps.{came_of, outcome_of, record_of, sends_of, IsIdle, IsStep, Steps, flight_behind, records_behind}
@@ -26,6 +27,8 @@ use Rattle.walter_machine.proofs.Standings.{still_told, still_up, want_idle, wan
 use Rattle.walter_rules.specs.declared.entry.Came.{Came}
 use Rattle.walter_rules.specs.declared.event.Event.{Event}
 use Rattle.walter_rules.specs.declared.event.Event.TheVariants.{Restart}
+use Rattle.walter_rules.specs.declared.event.Input.{Input}
+use Rattle.walter_rules.specs.declared.event.Input.TheVariants.{Call, Deliver, Advance, Tick}
 use Rattle.walter_rules.specs.declared.outcome.Outcome.{Outcome}
 use Rattle.walter_rules.specs.declared.outcome.Outcome.TheVariants.{Replied, Taken, Passed, Failed, Full, Memory, Down, Refused}
 use Rattle.walter_rules.specs.Calls.{Expected}
@@ -42,6 +45,29 @@ use Rattle.walter_rules.proofs.Staying.{put_all}
 use Rattle.walter_tables.specs.declared.tables.Tables.{Tables}
 use Rattle.walter_tables.specs.Sites.{site_of, catalog_of}
 
+-- ---- what a machine has room for
+
+pub lost_none : (lost : Option Table) → is_some lost ≡ false → lost ≡ None
+lost_none None none = refl
+lost_none (Some table) none = absurd cc
+
+by_up : {P : Type 0} (up : Bool) → (up ≡ true → P) → (up ≡ false → P) → P
+by_up true raised down = raised refl
+by_up false raised down = down refl
+
+-- one that is up has room, and so has one that is down where it took it
+pub room_of : (m : Machine) → (is_up m ≡ false → HasRoom m) → HasRoom m
+room_of m taken = by_up (is_up m) m.roomy taken
+
+-- it owes by its debts alone
+pub debt_so : (m : Machine) (S : Standing) (input : Input) (debt : Option Tid) → HasStanding m S → HasRoom m
+    → IsDebtOf (λ client. of_client client m.debts.entries) input debt → IsDebtOf S.gone input debt
+debt_so m S (Call client call) debt has room owes =
+    has.owed client ∙ (ap (λ (l : Option Table). owed_by m.debts.entries l client) (lost_none m.lost room.unlost) ∙ owes)
+debt_so m S (Deliver from number packet) debt has room owes = tt
+debt_so m S (Advance from) debt has room owes = tt
+debt_so m S Tick debt has room owes = tt
+
 -- ---- what came to nothing
 
 pub want_comes : (catalog : Catalog) (layout : Layout) (i : SiteId) (S : Standing) (event : Event) → TakesMemory S.up event
@@ -50,7 +76,7 @@ want_comes catalog layout i S event takes =
     Comes.no_memory takes (record { outcome_is = refl; wrote = refl; flight_is = refl; sends = refl; dropped = refl })
 
 module _ (m : Machine) (S : Standing) (has : HasStanding m S) (event : Event) where
-  still_standing : (outcome : Outcome) → IsIdle m.catalog m.id S event outcome
+  pub still_standing : (outcome : Outcome) → IsIdle m.catalog m.id S event outcome
       → ((client : ℕ) → told event outcome S.gone client ≡ S.gone client)
       → HasStanding m (stands_after m.catalog m.id S event (only outcome))
   still_standing outcome idle untold = record {
@@ -253,10 +279,6 @@ came_made alone outcome wrote sends step is outcome_is wrote_is sends_is = λ j.
 pub flight_sized : (P : Record → Type 0) (wrote flight : Option Record) → IfSome flight P → IfSome (flight_behind wrote flight) P
 flight_sized P None flight is = is
 flight_sized P (Some rec) flight is = tt
-
-lost_none : (lost : Option Table) → is_some lost ≡ false → lost ≡ None
-lost_none None none = refl
-lost_none (Some table) none = absurd cc
 
 -- how many records there are behind a step
 step_count : (catalog : Catalog) (i : SiteId) (site : Option Tables) (S : Standing) (event : Event) (step : Step)

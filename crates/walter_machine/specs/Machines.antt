@@ -1,11 +1,13 @@
 -- How a machine stands, and what its calls leave of it.
-use Rattle.std.specs.Prelude.{◌≡◌, ◌⊎◌, ◌+◌, ◌<◌, ◌≤◌, ◌^◌, ℕ, Bool, true, false, length, vec_len, Option, Some, None, is_some, IsSome, IfSome}
+use Rattle.std.specs.Prelude.{◌≡◌, ◌⊎◌, ◌+◌, ◌<◌, ◌^◌, ℕ, Bool, true, length, vec_len, Option, Some, None, is_some, IsSome, IfSome}
 use Rattle.walter_base.specs.declared.catalog.Catalog.{Catalog}
 use Rattle.walter_base.specs.declared.message.Record.{Record}
 use Rattle.walter_base.specs.declared.names.SiteId.{SiteId}
 use Rattle.walter_machine.specs.declared.machine.Machine.{Machine}
+use Rattle.walter_machine.specs.declared.ready.Ready.{Ready}
 use Rattle.walter_machine.specs.Debts.{owed_by}
-use Rattle.walter_machine.specs.States.{IsState, AreTold}
+use Rattle.walter_machine.specs.Readiness.{rec_in}
+use Rattle.walter_machine.specs.States.{IsState, IsRoom, AreTold}
 use Rattle.walter_rules.specs.declared.event.Event.TheVariants.{Restart}
 use Rattle.walter_rules.specs.Standing.{Standing, settled}
 use Rattle.walter_rules.specs.Trails.{IsFound}
@@ -39,15 +41,9 @@ pub record HasStanding (m : Machine) (S : Standing) : Type 0 where
   pub count : (S.up ≡ true) ⊎ IsSome S.flight → m.records ≡ length S.records
   pub owed : (client : ℕ) → S.gone client ≡ owed_by m.debts.entries m.lost client
 
--- There is memory for what an event leaves: whoever was lost is in the debts, and its record has a place in flight;
--- and one more record can be counted.
-pub record IsRoom (has_lost : Bool) (places records : ℕ) : Type 0 where
-  pub unlost : has_lost ≡ false
-  pub enough : 1 ≤ places
-  pub countable : records + 1 < 2 ^ 64
-
+-- it has what its fall takes
 abbrev pub HasRoom : Machine → Type 0
-HasRoom m = IsRoom (is_some m.lost) (vec_len m.places) m.records
+HasRoom m = IsRoom (is_some m.lost) (vec_len m.places)
 
 -- of the same site
 pub record IsSameSite (old new : Machine) : Type 0 where
@@ -64,6 +60,10 @@ pub record Settles (S : Standing) (found : ℕ) (kept : Option Record) (m : Mach
   pub stands : HasStanding m (settled m.catalog m.id kept S)
   pub count : found ≡ length (settled m.catalog m.id kept S).records
   pub counted : m.records ≡ found
+
+-- where a record is ready, one more can be counted
+abbrev pub IsCountable : Machine → Ready → Type 0
+IsCountable m ready = IsSome (rec_in ready) → m.records + 1 < 2 ^ 64
 
 -- where a record comes, it is known how many there were
 abbrev pub IsCounted : Machine → Standing → Option Record → Type 0

@@ -1,5 +1,5 @@
 -- How a site stands, apart from where its records lie.
-use Rattle.std.specs.Prelude.{◌≡◌, ◌<◌, ℕ, true, false, Option, Some, None, IfSome, All}
+use Rattle.std.specs.Prelude.{◌≡◌, ◌<◌, ◌≤◌, ℕ, Bool, true, false, Option, Some, None, IfSome, All}
 use Rattle.walter_base.specs.declared.catalog.Catalog.{Catalog}
 use Rattle.walter_base.specs.declared.message.Record.{Record}
 use Rattle.walter_base.specs.declared.names.SiteId.{SiteId}
@@ -31,6 +31,12 @@ IsState S (Some tables) = IsUp S tables
 -- the tables are this site's
 abbrev pub IsOf : Catalog → SiteId → Tables → Type 0
 IsOf catalog i tables = (site_of tables ≡ i) × (catalog_of tables ≡ catalog)
+
+-- There is memory for what the fall of a site leaves: whoever was lost before is in the debts, and its record has a
+-- place in flight.
+pub record IsRoom (has_lost : Bool) (places : ℕ) : Type 0 where
+  pub unlost : has_lost ≡ false
+  pub enough : 1 ≤ places
 
 -- the record has the sizes of one among so many sites, and can stand behind what the site knows
 pub record CanBeNext (catalog : Catalog) (i : SiteId) (S : Standing) (rec : Record) : Type 0 where

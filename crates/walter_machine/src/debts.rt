@@ -56,6 +56,7 @@ pub fn owe_lost(debts: &mut IndexMap<u32, Tid>, lost: &mut Option<Sessions>) -> 
     ensures owed { (client : ℕ) → owed_by debts.new.entries lost.new client
         ≡ owed_by debts.old.entries lost.old client }
     ensures none { OnOk result (lost.new ≡ None) }
+    ensures unlost { lost.old ≡ None → lost.new ≡ None }
 {
     let Some(sessions) = lost else {
         return Ok(());

@@ -1,4 +1,4 @@
-ghost use Rattle.std.specs.Prelude.{◌≡◌, ◌+◌, ◌<◌, ◌^◌, None, Some, is_some, IfSome, IsSome};
+ghost use Rattle.std.specs.Prelude.{◌≡◌, ◌+◌, ◌<◌, ◌^◌, None, Some, true, is_some, IfSome, IsSome};
 ghost use Rattle.walter_base.specs.declared.catalog.Catalog.{Catalog};
 ghost use Rattle.walter_base.specs.declared.names.SiteId.{SiteId};
 ghost use Rattle.walter_machine.specs.Debts.{sessions_lost};
@@ -38,6 +38,7 @@ pub fn follow(
     ensures of { (catalog : Catalog) (i : SiteId) (S : Standing) → IfSome site.old (IsOf catalog i)
         → IsStep catalog i site.old S event.now step → IfSome site.new (IsOf catalog i) }
     ensures up { is_some site.new ≡ up_after event.now (outcome_of step) (is_some site.old) }
+    ensures unlost { is_some site.new ≡ true → lost.new ≡ None }
 {
     match step {
         Step::Answer(outcome) => (outcome, Sends::from(Vec::new(alloc))),
@@ -103,7 +104,7 @@ pub fn rec_of(step: Step) -> Record
 /// How many records there are behind an event that wrote this one, if any, and the one in flight: none where one was
 /// written.
 pub fn count_in(wrote: &MaybeRecord, records: u64, flight: MaybeRecord) -> (u64, MaybeRecord)
-    requires { records + 1 < 2 ^ 64 }
+    requires { IsSome wrote.now → records + 1 < 2 ^ 64 }
     ensures records { result.0 ≡ records_behind wrote.now records }
     ensures flight { result.1 ≡ flight_behind wrote.now flight }
 {

@@ -1,22 +1,22 @@
-ghost use Rattle.std.specs.Prelude.{◌≡◌, ◌≢◌, ◌≤◌, ◌<◌, ◌+◌, ◌^◌, ℕ, None, Some, false, true, is_some, IfSome, IfNone, IsSome, IfOk, OnErr, OnOk};
+ghost use Rattle.std.specs.Prelude.{◌≡◌, ◌≢◌, ◌≤◌, ◌<◌, ◌+◌, ◌^◌, ℕ, None, Some, false, true, is_some, vec_len, IfSome, IfNone, IsSome, IfOk, OnErr, OnOk};
 ghost use Rattle.walter_base.specs.contracts.catalog.Catalog as coded_catalog;
 ghost use Rattle.walter_base.specs.Sizes.{CanBeRecorded};
 ghost use Rattle.walter_base.specs.Vectors.{most_sites};
 ghost use Rattle.walter_machine.specs.Props.{props};
-ghost use Rattle.walter_machine.specs.States.{IsOf};
+ghost use Rattle.walter_machine.specs.States.{IsOf, IsRoom};
 ghost use Rattle.walter_rules.specs.Layouts.{Layout, FitsIn, left_behind, need_of};
 
 use crate::debts::{debt_of, forgive, owe_lost};
 use crate::following::{count_in, follow, rec_of};
 use crate::losing::lose;
-use crate::outcomes::{failure, fullness, want};
+use crate::outcomes::{failure, fullness, outcome_of_down, want};
 use crate::places::{make_places, place};
 use crate::preparing::{prepare_input, without_record};
 use crate::ready::{Ready, Step};
 use indexmap::IndexMap;
 use std::alloc::Global;
 use std::mem;
-use walter_base::{Catalog, MaybeRecord, Mem, NoMemory, Record, RecordPlace, SiteId, Tid};
+use walter_base::{Catalog, MaybeRecord, Mem, Record, RecordPlace, SiteId, Tid};
 use walter_packet::Framed;
 use walter_rules::{Came, Event, Outcome};
 use walter_session::Sessions;
@@ -43,17 +43,21 @@ pub struct Machine {
     ghost fewer: { catalog.tolerated < catalog.sites },
     ghost of: { IfSome site (IsOf catalog id) } by { Prim.hlevel (props, coded_catalog.the_row.coded) },
     ghost sized: { IfSome flight CanBeRecorded } by { Prim.hlevel props },
+    // A site that is up has what its fall takes.
+    ghost roomy: { is_some site ≡ true → IsRoom (is_some lost) (vec_len places) } by { Prim.hlevel props },
 }
 
 impl Machine {
-    ghost use Rattle.walter_machine.specs.Comings.{IsRest};
+    ghost use Rattle.walter_machine.specs.Comings.{IsRest, IsSized, is_faulty};
     ghost use Rattle.walter_machine.specs.Machines.{catalog_in, site_in, tables_in, is_up, flight_in, records_in};
-    ghost use Rattle.walter_machine.specs.Machines.{HasStanding, HasRoom, IsSameSite, AreFound, Settles, IsCounted};
+    ghost use Rattle.walter_machine.specs.Machines.{HasStanding, HasRoom, IsSameSite, AreFound, Settles};
+    ghost use Rattle.walter_machine.specs.Machines.{IsCountable, IsCounted};
     ghost use Rattle.walter_machine.specs.Readiness.{IsReadyFor, IsReadyAnyway, rec_in, came_in};
     ghost use Rattle.walter_machine.specs.States.{AreTold, IsSizedEvent};
     ghost use Rattle.walter_rules.specs.Deliveries.{IsLeastEnabled};
     ghost use Rattle.walter_rules.specs.declared.event.Event.TheVariants as happens;
     ghost use Rattle.walter_rules.specs.declared.event.Input.TheVariants as inputs;
+    ghost use Rattle.walter_rules.specs.Rule.{rule};
     ghost use Rattle.walter_rules.specs.Standing.{Standing, stands_after, up_after};
     ghost use Rattle.walter_rules.specs.Trails.{Comes, TakesMemory, failure, fullness, only, want};
     ghost use Rattle.walter_tables.specs.Folding.{IsTidy};
@@ -124,7 +128,8 @@ impl Machine {
         self.site.as_ref()?.least_enabled()
     }
 
-    /// Takes the memory that any event leaves a site with.
+    /// Takes the memory with which a site comes up: a place for a record in flight, and one for each debt that the last
+    /// fall left.
     pub fn make_room(&mut self) -> Mem<()>
         ensures room { OnOk result (HasRoom self.new) }
         ensures stands { (S : Standing) → HasStanding self.old S → HasStanding self.new S }
@@ -133,43 +138,59 @@ impl Machine {
         ensures records { records_in self.new ≡ records_in self.old }
         ensures same { IsSameSite self.old self.new }
     {
-        // No memory holds so many records.
-        if self.records >= u64::MAX - 1 {
-            return Err(NoMemory);
-        }
         make_places(self.alloc, &mut self.places)?;
         owe_lost(&mut self.debts, &mut self.lost)
     }
 
-    /// What is to come of an event, with the record that is to be stable first and the frames of what is put out. At a
-    /// tick the rows are folded first. How a site comes up that is down `Ready::boot` says.
+    /// What is to come of an event at a site that is up, with the record that is to be stable first and the frames of
+    /// what is put out. At a tick the rows are folded first. How a site comes up that is down `Ready::boot` says.
     pub fn prepare(&mut self, event: &Event) -> Mem<Ready>
         requires sized { IsSizedEvent (catalog_in self.old).sites event.now }
-        requires room { HasRoom self.old }
-        requires raised { is_up self.old ≡ false → event.now ≢ happens.Restart }
+        requires up { is_up self.old ≡ true }
         ensures ready { (S : Standing) → HasStanding self.old S
             → IfOk result (IsReadyFor (catalog_in self.old) (site_in self.old) (tables_in self.new) S event.now) }
         ensures anyway { IfOk result
             (IsReadyAnyway (catalog_in self.old) (site_in self.old) (tables_in self.new) event.now) }
-        ensures free { OnErr result (TakesMemory (is_up self.old) event.now) }
+        ensures countable { IfOk result (IsCountable self.new) }
+        ensures free { OnErr result (TakesMemory true event.now) }
         ensures tidy { event.now ≡ happens.Given inputs.Tick → IfSome (tables_in self.new) IsTidy }
         ensures stands { (S : Standing) → HasStanding self.old S → HasStanding self.new S }
-        ensures room { HasRoom self.new }
-        ensures up { is_up self.new ≡ is_up self.old }
+        ensures up { is_up self.new ≡ true }
         ensures flight { flight_in self.new ≡ flight_in self.old }
         ensures records { records_in self.new ≡ records_in self.old }
         ensures same { IsSameSite self.old self.new }
     {
         let alloc = self.alloc;
+        let Some(site) = &mut self.site else {
+            unreachable!()
+        };
         match event {
             Event::Given(input) => {
                 let owed = debt_of(&self.debts, input);
-                prepare_input(alloc, &mut self.site, owed, self.catalog.sites, input)
+                prepare_input(alloc, site, owed, self.catalog.sites, self.records, input)
             }
-            Event::Stop if self.is_up() => Ok(without_record(alloc, Step::Fall)),
-            Event::Stop => Ok(without_record(alloc, Step::Answer(Outcome::Down))),
+            Event::Stop => Ok(without_record(alloc, Step::Fall)),
             Event::Restart => Ok(without_record(alloc, Step::Answer(Outcome::Passed))),
         }
+    }
+
+    /// What comes to a site that is down, but for a restart: it is answered so, and nothing is done. It takes no
+    /// memory.
+    pub fn decline(&self, event: &Event) -> Came
+        requires down { is_up self.now ≡ false }
+        requires stays { event.now ≢ happens.Restart }
+        ensures only { result ≡ only result.outcome }
+        ensures ruled { (S : Standing) → S.up ≡ false
+            → result.outcome ≡ (rule (catalog_in self.now) (site_in self.now) S event.now).outcome }
+        ensures sized { IsSized (catalog_in self.now).sites result }
+        ensures fine { is_faulty result.outcome ≡ false }
+        ensures comes { (layout : Layout) (S : Standing) → HasStanding self.now S
+            → Comes (catalog_in self.now) layout (site_in self.now) S event.now result }
+        ensures stands { (S : Standing) → HasStanding self.now S
+            → HasStanding self.now (stands_after (catalog_in self.now) (site_in self.now) S event.now result) }
+        ensures down { up_after event.now result.outcome false ≡ false }
+    {
+        Came::only(self.alloc, outcome_of_down(event))
     }
 
     /// A restart found so many records, by which the record in flight is decided. It comes back where it is one of them.
@@ -178,24 +199,26 @@ impl Machine {
         requires count { found + 1 < 2 ^ 64 }
         ensures settles { (S : Standing) → HasStanding self.old S → AreFound S found → Settles S found result self.new }
         ensures sized { IfSome result CanBeRecorded }
+        ensures records { records_in self.new ≡ found }
         ensures room { HasRoom self.old → HasRoom self.new }
         ensures down { tables_in self.new ≡ None }
         ensures same { IsSameSite self.old self.new }
     {
+        let before = self.records;
+        self.records = found;
         let Some(_) = self.flight.as_ref() else {
-            self.records = found;
             return MaybeRecord::none();
         };
-        if found <= self.records {
+        if found <= before {
             return MaybeRecord::none();
         }
-        self.records = found;
         mem::replace(&mut self.flight, MaybeRecord::none())
     }
 
     /// The event comes; its record, if there is one, is stable. It takes no memory.
     pub fn keep(&mut self, event: &Event, ready: Ready) -> (Came, Vec<Framed>)
-        requires room { HasRoom self.old }
+        requires room { is_up self.old ≡ false → HasRoom self.old }
+        requires countable { IsCountable self.old ready }
         requires anyway { IsReadyAnyway (catalog_in self.old) (site_in self.old) (tables_in self.old) event.now ready }
         ensures came { result.0 ≡ came_in ready }
         ensures framed { result.1.items ≡ ready.frames.items }
@@ -230,7 +253,7 @@ impl Machine {
 
     /// The record of the event met a fault of the disk: it is in flight, and the site is down. It takes no memory.
     pub fn fail(&mut self, event: &Event, ready: Ready) -> Came
-        requires room { HasRoom self.old }
+        requires room { is_up self.old ≡ false → HasRoom self.old }
         requires anyway { IsReadyAnyway (catalog_in self.old) (site_in self.old) (tables_in self.old) event.now ready }
         requires flies { IsSome (rec_in ready) }
         ensures came { IfSome (rec_in ready) (λ rec.

@@ -1,6 +1,10 @@
-ghost use Rattle.std.specs.Prelude.{◌≡◌};
+ghost use Rattle.std.specs.Prelude.{◌≡◌, ◌≢◌, false};
+ghost use Rattle.walter_base.specs.declared.catalog.Catalog.{Catalog};
+ghost use Rattle.walter_base.specs.declared.names.SiteId.{SiteId};
 ghost use Rattle.walter_machine.specs.Debts.{gone_first};
-ghost use Rattle.walter_rules.specs.Rule.{given_down};
+ghost use Rattle.walter_rules.specs.declared.event.Event.TheVariants as happens;
+ghost use Rattle.walter_rules.specs.Rule.{given_down, rule};
+ghost use Rattle.walter_rules.specs.Standing.{Standing};
 ghost use Rattle.walter_rules.specs.Trails.{failure, fullness, want};
 
 use walter_base::{BadFrame, Record, Refusal, Reply, Request, Tid};
@@ -40,8 +44,21 @@ pub fn fullness(event: &Event, need: u64, left: u64) -> Outcome
     }
 }
 
-/// What an input comes to at a site that is down.
-pub fn outcome_at_rest(input: &Input) -> Outcome
+/// What an event comes to at a site that is down and isn't to restart.
+pub fn outcome_of_down(event: &Event) -> Outcome
+    requires { event.now ≢ happens.Restart }
+    ensures { (catalog : Catalog) (i : SiteId) (S : Standing) → S.up ≡ false
+        → result ≡ (rule catalog i S event.now).outcome }
+{
+    match event {
+        Event::Given(input) => outcome_at_rest(input),
+        Event::Stop => Outcome::Down,
+        Event::Restart => unreachable!(),
+    }
+}
+
+// What an input comes to there.
+fn outcome_at_rest(input: &Input) -> Outcome
     ensures { result ≡ (given_down input.now).outcome }
 {
     match input {

@@ -8,7 +8,8 @@ const MOST_PLACES: usize = 1;
 
 /// Makes places for the records of the next event: one for the record in flight.
 pub fn make_places(alloc: Global, places: &mut Vec<RecordPlace>) -> Mem<()>
-    ensures { OnOk result (1 ≤ vec_len places.new) }
+    ensures enough { OnOk result (1 ≤ vec_len places.new) }
+    ensures more { vec_len places.old ≤ vec_len places.new }
 {
     for _ in places.len()..MOST_PLACES {
         places.push(RecordPlace::new(alloc)?)?;

@@ -1,11 +1,9 @@
-ghost use Rattle.std.specs.Prelude.{◌≡◌, ◌≢◌, ◌≤◌, ℕ, [], map, true, is_some, All, IfOk, IfSome, OnErr, Option, Some, None};
-ghost use Rattle.walter_base.specs.declared.catalog.Catalog.{Catalog};
-ghost use Rattle.walter_base.specs.declared.names.SiteId.{SiteId};
+ghost use Rattle.std.specs.Prelude.{◌≡◌, ◌≢◌, ◌≤◌, ◌<◌, ◌+◌, ◌^◌, ℕ, [], map, true, is_some, All, IfOk, IsSome, OnErr, Option, Some, None};
 ghost use Rattle.walter_base.specs.declared.names.Tid.{Tid as Named};
 ghost use Rattle.walter_base.specs.Vectors.{most_sites};
 ghost use Rattle.walter_machine.specs.Debts.{IsDebtOf, gone_first};
-ghost use Rattle.walter_machine.specs.Readiness.{IsReadyFor, IsReadyAnyway};
-ghost use Rattle.walter_machine.specs.States.{IsOf, IsState, IsUp};
+ghost use Rattle.walter_machine.specs.Readiness.{IsReadyFor, IsReadyAnyway, rec_in};
+ghost use Rattle.walter_machine.specs.States.{IsUp};
 ghost use Rattle.walter_machine.specs.Steps.{record_of};
 ghost use Rattle.walter_packet.specs.Framed.{frame_of};
 ghost use Rattle.walter_packet.specs.Spelling.{HasPacketSpelling};
@@ -17,11 +15,11 @@ ghost use Rattle.walter_site.specs.Members.{IsStanding, IsSizedInput, IsSizedPac
 ghost use Rattle.walter_tables.specs.Folding.{IsTidy};
 ghost use Rattle.walter_tables.specs.Sites.{site_of, catalog_of};
 
-use crate::outcomes::{gone_first, outcome_at_rest};
+use crate::outcomes::gone_first;
 use crate::packed::PackedPlan;
 use crate::ready::{Ready, Step};
 use std::alloc::Global;
-use walter_base::{MaybeRecord, Mem, Refusal, Reply, Sends, Tid};
+use walter_base::{MaybeRecord, Mem, NoMemory, Refusal, Reply, Sends, Tid};
 use walter_packet::Framed;
 use walter_rules::{Input, Outcome};
 use walter_site::Site;
@@ -40,33 +38,30 @@ pub fn without_record(alloc: Global, step: Step) -> Ready
     }
 }
 
-/// What an input comes to. Its client is owed the news of this transaction, or of none.
+/// What an input comes to at a site that has so many records. Its client is owed the news of this transaction, or of
+/// none.
 pub fn prepare_input(
     alloc: Global,
-    site: &mut Option<Site>,
+    site: &mut Site,
     owed: Option<Tid>,
     sites: u8,
+    records: u64,
     input: &Input,
 ) -> Mem<Ready>
     requires most { sites ≤ most_sites }
-    requires among { IfSome site.old (λ t. (catalog_of t).sites ≡ sites) }
+    requires among { (catalog_of site.old).sites ≡ sites }
     requires sized { IsSizedInput sites input.now }
-    ensures ready { (catalog : Catalog) (i : SiteId) (S : Standing) → catalog.sites ≡ sites
-        → IfSome site.old (IsOf catalog i) → IsState S site.old → IsDebtOf S.gone input.now owed
-        → IfOk result (IsReadyFor catalog i site.new S (Happens.Given input.now)) }
-    ensures free { OnErr result (TakesMemory (is_some site.old) (Happens.Given input.now)) }
-    ensures state { (S : Standing) → IsState S site.old → IsState S site.new }
-    ensures of { (catalog : Catalog) (i : SiteId) → IfSome site.old (IsOf catalog i)
-        → IfSome site.new (IsOf catalog i) }
-    ensures up { is_some site.new ≡ is_some site.old }
-    ensures tidy { input.now ≡ Asked.Tick → IfSome site.new IsTidy }
-    ensures anyway { (catalog : Catalog) (i : SiteId) (gone : ℕ → Option Named) → catalog.sites ≡ sites
-        → IfSome site.old (IsOf catalog i) → IsDebtOf gone input.now owed
-        → IfOk result (IsReadyAnyway catalog i site.new (Happens.Given input.now)) }
+    ensures ready { (S : Standing) → IsUp S site.old → IsDebtOf S.gone input.now owed → IfOk result
+        (IsReadyFor (catalog_of site.old) (site_of site.old) (Some site.new) S (Happens.Given input.now)) }
+    ensures free { OnErr result (TakesMemory true (Happens.Given input.now)) }
+    ensures state { (S : Standing) → IsUp S site.old → IsUp S site.new }
+    ensures site { site_of site.new ≡ site_of site.old }
+    ensures catalog { catalog_of site.new ≡ catalog_of site.old }
+    ensures tidy { input.now ≡ Asked.Tick → IsTidy site.new }
+    ensures countable { IfOk result (λ ready. IsSome (rec_in ready) → records + 1 < 2 ^ 64) }
+    ensures anyway { (gone : ℕ → Option Named) → IsDebtOf gone input.now owed → IfOk result
+        (IsReadyAnyway (catalog_of site.old) (site_of site.old) (Some site.new) (Happens.Given input.now)) }
 {
-    let Some(site) = site else {
-        return Ok(without_record(alloc, Step::Answer(outcome_at_rest(input))));
-    };
     match gone_first(owed, input) {
         Some(tid) => {
             let outcome = Outcome::Replied(Reply::Refused(Refusal::Gone { tid }));
@@ -74,7 +69,7 @@ pub fn prepare_input(
         }
         None => {
             tidy_at(site, input);
-            plan(alloc, site, sites, input)
+            plan(alloc, site, sites, records, input)
         }
     }
 }
@@ -92,7 +87,7 @@ fn tidy_at(site: &mut Site, input: &Input)
 }
 
 // What it comes to at a site that is up and asked.
-fn plan(alloc: Global, site: &mut Site, sites: u8, input: &Input) -> Mem<Ready>
+fn plan(alloc: Global, site: &mut Site, sites: u8, records: u64, input: &Input) -> Mem<Ready>
     requires most { sites ≤ most_sites }
     requires among { (catalog_of site.old).sites ≡ sites }
     requires sized { IsSizedInput sites input.now }
@@ -104,11 +99,12 @@ fn plan(alloc: Global, site: &mut Site, sites: u8, input: &Input) -> Mem<Ready>
     ensures site { site_of site.new ≡ site_of site.old }
     ensures catalog { catalog_of site.new ≡ catalog_of site.old }
     ensures rests { input.now ≡ Asked.Tick → site.new ≡ site.old }
+    ensures countable { IfOk result (λ ready. IsSome (rec_in ready) → records + 1 < 2 ^ 64) }
     ensures standing { IsStanding site.old }
 {
     let plan = site.plan(input)?;
     let frames = frame_all(alloc, &plan.planned.sends, sites)?;
-    let rec = copy_any(alloc, &plan.planned.rec)?;
+    let rec = copy_any(alloc, &plan.planned.rec, records)?;
     Ok(Ready {
         step: Step::Apply(PackedPlan::new(alloc, plan)?),
         rec,
@@ -116,15 +112,20 @@ fn plan(alloc: Global, site: &mut Site, sites: u8, input: &Input) -> Mem<Ready>
     })
 }
 
-// A copy of a record, where there is one.
-fn copy_any(alloc: Global, rec: &MaybeRecord) -> Mem<MaybeRecord>
+// A copy of a record, where there is one, that comes behind so many.
+fn copy_any(alloc: Global, rec: &MaybeRecord, records: u64) -> Mem<MaybeRecord>
     ensures copy { IfOk result (λ copy. copy ≡ rec.now) }
+    ensures countable { IfOk result (λ copy. IsSome copy → records + 1 < 2 ^ 64) }
     ensures free { OnErr result (is_some rec.now ≡ true) }
 {
-    match rec.as_ref() {
-        Some(rec) => MaybeRecord::some(alloc, rec.clone()?),
-        None => Ok(MaybeRecord::none()),
+    let Some(rec) = rec.as_ref() else {
+        return Ok(MaybeRecord::none());
+    };
+    // No memory holds so many records.
+    if records >= u64::MAX - 1 {
+        return Err(NoMemory);
     }
+    MaybeRecord::some(alloc, rec.clone()?)
 }
 
 // The frames of packets, which are among so many sites.

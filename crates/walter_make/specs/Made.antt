@@ -62,6 +62,7 @@ made number calls = record {
   clients = made_clients (made_calls number calls);
   capacity = 16777216;
   areas = 1;
+  room = 0;
   link = made_link number;
   ticks = 10000;
   threads = 8;

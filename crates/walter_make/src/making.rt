@@ -1,6 +1,6 @@
 ghost use Rattle.std.specs.Prelude.{◌≡◌, ◌≤◌, ◌<◌, length, All, IfOk};
 ghost use Rattle.walter_base.specs.Vectors.{most_sites};
-ghost use Rattle.walter_scenario.specs.Parts.{IsAreas, IsArm, IsStep};
+ghost use Rattle.walter_scenario.specs.Parts.{IsAreas, IsArm, IsRoom, IsStep};
 ghost use Rattle.walter_make.specs.Made.{made, made_catalog};
 
 use crate::calls::{draw_calls, steps_of};
@@ -9,7 +9,8 @@ use std::alloc::Global;
 use walter_base::{Catalog, Kind, Mem, NoMemory, SiteId};
 use walter_link::{Link, Rates};
 use walter_scenario::{
-    Arms, COMMON_AREAS, COMMON_CAPACITY, COMMON_THREADS, Clients, MOST_TICKS, Scenario, Steps,
+    Arms, COMMON_AREAS, COMMON_CAPACITY, COMMON_ROOM, COMMON_THREADS, Clients, MOST_TICKS,
+    Scenario, Steps,
 };
 
 /// The scenario that is made from a number, with so many calls.
@@ -22,6 +23,7 @@ pub fn make(alloc: Global, number: u64, calls: u32) -> Mem<Scenario>
     ensures fewer { IfOk result (λ scenario. scenario.catalog.tolerated < scenario.catalog.sites) }
     ensures place { IfOk result (λ scenario. 19 ≤ scenario.capacity) }
     ensures areas { IfOk result (λ scenario. IsAreas scenario.areas scenario.capacity) }
+    ensures room { IfOk result (λ scenario. IsRoom scenario.room) }
     ensures within { IfOk result (λ scenario.
         All (λ client. client.site.0 < scenario.catalog.sites) scenario.clients) }
     ensures arms { IfOk result (λ scenario. All (IsArm scenario.catalog.sites) scenario.arms) }
@@ -36,6 +38,7 @@ pub fn make(alloc: Global, number: u64, calls: u32) -> Mem<Scenario>
         clients: Clients::from(clients),
         capacity: COMMON_CAPACITY,
         areas: COMMON_AREAS,
+        room: COMMON_ROOM,
         link: Link {
             seed: number,
             rates: Rates {

@@ -1,15 +1,69 @@
--- What is wrong with the steps is wrong with the bytes.
-use Rattle.std.proofs.Common.{List, length, sym, subst}
+-- What is wrong with the room or with the steps is wrong with the bytes.
+use Rattle.std.proofs.Common.{◌≡◌, ◌≤◌, ◌<◌, ℕ, List, length, Some, sym, ap, ◌∙◌, subst}
 use Rattle.serde_json.specs.View.{view}
+use Rattle.walter_base.specs.declared.catalog.Catalog.{Catalog}
+use Rattle.walter_base.specs.Vectors.{most_sites}
 use Rattle.walter_scenario.specs.declared.grounds.Grounds.{Grounds}
 use Rattle.walter_scenario.specs.declared.members.Parts.{Parts}
+use Rattle.walter_scenario.specs.declared.place.Detail.{Detail}
+use Rattle.walter_scenario.specs.declared.place.Place.TheVariants.{Room}
 use Rattle.walter_scenario.specs.declared.place.ReadFault.{ReadFault}
 use Rattle.walter_scenario.specs.declared.place.ReadFault.TheVariants.{Refused, NoMemory}
 use Rattle.walter_scenario.specs.declared.scenario.Arm.{Arm}
+use Rattle.walter_scenario.specs.declared.scenario.Client.{Client}
 use Rattle.walter_scenario.specs.declared.settings.Settings.{Settings}
 use Rattle.walter_scenario.specs.Faults.{IsStepsFault}
-use Rattle.walter_scenario.specs.Members.{data_in, AreSettingsOf, IsFaultOn}
-use Rattle.walter_scenario.specs.Scenarios.{GivesLink, GivesTicks, GivesThreads, GivesArms, IsRefusedAt}
+use Rattle.walter_scenario.specs.Fronts.{IsCatalog, ListsClients}
+use Rattle.walter_scenario.specs.Members.{data_in, AreSettingsOf, IsFaultOf, IsFaultOn}
+use Rattle.walter_scenario.specs.Parts.{whole}
+use Rattle.walter_scenario.specs.Scenarios.{GivesCapacity, GivesAreas, GivesRoom, GivesLink, GivesTicks, GivesThreads, GivesArms, IsRefusedAt}
+
+pub fault_of_room : (parts : Parts) (sites tolerated : ℕ) (catalog : Catalog) (clients : List Client)
+    (capacity areas : ℕ) (detail : Detail)
+    → (1 ≤ sites) × (sites ≤ most_sites) → view parts.sites.now ≡ whole sites
+    → tolerated < sites → view parts.tolerated.now ≡ whole tolerated
+    → IsCatalog sites tolerated (view parts.containers.now) catalog
+    → ListsClients sites (view parts.clients.now) clients
+    → GivesCapacity (data_in parts.capacity) capacity → GivesAreas (data_in parts.areas) areas capacity
+    → ((room : ℕ) → ¬ GivesRoom (data_in parts.room) room)
+    → IsFaultOf parts (Refused Room detail)
+fault_of_room parts sites tolerated catalog clients capacity areas detail some s fewer t is lists in_bytes in_areas none
+    bytes ms keys are = (
+      ms,
+      sites,
+      tolerated,
+      is.declared,
+      clients,
+      capacity,
+      areas,
+      record {
+        has_capacity = record {
+          has_clients = record {
+            has_containers = record {
+              has_tolerated = record {
+                has_sites = record {
+                  has_keys = keys;
+                  spelled = are.sites ∙ ap Some s;
+                  some = some.0;
+                  most = some.1;
+                };
+                spelled = are.tolerated ∙ ap Some t;
+                fewer = fewer;
+              };
+              values = is.values;
+              spelled = are.containers ∙ ap Some is.spelled;
+              are = is.are;
+            };
+            values = lists.0;
+            spelled = are.clients ∙ ap Some lists.1;
+            are = lists.2;
+          };
+          given = subst (λ value. GivesCapacity value capacity) (sym are.capacity) in_bytes;
+        };
+        given = subst (λ value. GivesAreas value areas capacity) (sym are.areas) in_areas;
+      },
+      λ room given. none room (subst (λ value. GivesRoom value room) are.room given),
+    )
 
 pub fault_of_steps : (g : Grounds) (parts : Parts) (s : Settings) (arms : List Arm) (fault : ReadFault)
     → AreSettingsOf parts s → GivesArms g.catalog.sites (data_in parts.arms) arms
@@ -24,6 +78,7 @@ fault_of_steps g parts s arms (Refused place detail) settings given item bytes m
       g.clients,
       g.capacity,
       g.areas,
+      g.room,
       s.link,
       s.ticks,
       s.threads,
@@ -33,7 +88,7 @@ fault_of_steps g parts s arms (Refused place detail) settings given item bytes m
         has_threads = record {
           has_ticks = record {
             has_link = record {
-              has_areas = has.has_areas;
+              has_room = has.has_room;
               given = subst (λ value. GivesLink value s.link) (sym are.link) settings.link;
             };
             given = subst (λ value. GivesTicks value s.ticks) (sym are.ticks) settings.ticks;

@@ -9,7 +9,7 @@ use Rattle.walter_scenario.specs.declared.scenario.Arm.{Arm}
 use Rattle.walter_scenario.specs.declared.scenario.Client.{Client}
 use Rattle.walter_scenario.specs.declared.scenario.Scenario.{Scenario}
 use Rattle.walter_scenario.specs.Parts.{whole, list, HasMember, SpellClients, SpellLink, AreArms, AreSteps}
-use Rattle.walter_scenario.specs.Scenarios.{IsJsonObject, GivesCapacity, GivesAreas, GivesLink, GivesTicks, GivesThreads, GivesArms, HasSites, HasTolerated, HasContainers, HasClients, HasCapacity, HasAreas, HasLink, HasTicks, HasThreads, HasArms, IsReading}
+use Rattle.walter_scenario.specs.Scenarios.{IsJsonObject, GivesCapacity, GivesAreas, GivesRoom, GivesLink, GivesTicks, GivesThreads, GivesArms, HasSites, HasTolerated, HasContainers, HasClients, HasCapacity, HasAreas, HasRoom, HasLink, HasTicks, HasThreads, HasArms, IsReading}
 use Rattle.walter_scenario.proofs.Declared.{same_declared}
 use Rattle.walter_scenario.proofs.Scripts.{same_arms, same_steps}
 use Rattle.walter_scenario.proofs.Sent.{same_clients}
@@ -75,26 +75,32 @@ pub areas_object : (bytes : List ℕ) (m : Members) (s f : ℕ) (ds : List Item)
     → HasAreas bytes m s f ds cs capacity areas → IsJsonObject bytes m
 areas_object bytes m s f ds cs capacity areas has = capacity_object bytes m s f ds cs capacity has.has_capacity
 
-pub link_object : (bytes : List ℕ) (m : Members) (s f : ℕ) (ds : List Item) (cs : List Client) (capacity areas : ℕ)
-    (link : Link) → HasLink bytes m s f ds cs capacity areas link → IsJsonObject bytes m
-link_object bytes m s f ds cs capacity areas link has = areas_object bytes m s f ds cs capacity areas has.has_areas
+pub room_object : (bytes : List ℕ) (m : Members) (s f : ℕ) (ds : List Item) (cs : List Client)
+    (capacity areas room : ℕ) → HasRoom bytes m s f ds cs capacity areas room → IsJsonObject bytes m
+room_object bytes m s f ds cs capacity areas room has = areas_object bytes m s f ds cs capacity areas has.has_areas
 
-pub ticks_object : (bytes : List ℕ) (m : Members) (s f : ℕ) (ds : List Item) (cs : List Client) (capacity areas : ℕ)
-    (link : Link) (ticks : ℕ) → HasTicks bytes m s f ds cs capacity areas link ticks → IsJsonObject bytes m
-ticks_object bytes m s f ds cs capacity areas link ticks has =
-    link_object bytes m s f ds cs capacity areas link has.has_link
+pub link_object : (bytes : List ℕ) (m : Members) (s f : ℕ) (ds : List Item) (cs : List Client)
+    (capacity areas room : ℕ) (link : Link) → HasLink bytes m s f ds cs capacity areas room link → IsJsonObject bytes m
+link_object bytes m s f ds cs capacity areas room link has =
+    room_object bytes m s f ds cs capacity areas room has.has_room
 
-pub threads_object : (bytes : List ℕ) (m : Members) (s f : ℕ) (ds : List Item) (cs : List Client) (capacity areas : ℕ)
-    (link : Link) (ticks threads : ℕ) → HasThreads bytes m s f ds cs capacity areas link ticks threads
+pub ticks_object : (bytes : List ℕ) (m : Members) (s f : ℕ) (ds : List Item) (cs : List Client)
+    (capacity areas room : ℕ) (link : Link) (ticks : ℕ) → HasTicks bytes m s f ds cs capacity areas room link ticks
     → IsJsonObject bytes m
-threads_object bytes m s f ds cs capacity areas link ticks threads has =
-    ticks_object bytes m s f ds cs capacity areas link ticks has.has_ticks
+ticks_object bytes m s f ds cs capacity areas room link ticks has =
+    link_object bytes m s f ds cs capacity areas room link has.has_link
 
-pub arms_object : (bytes : List ℕ) (m : Members) (s f : ℕ) (ds : List Item) (cs : List Client) (capacity areas : ℕ)
-    (link : Link) (ticks threads : ℕ) (arms : List Arm)
-    → HasArms bytes m s f ds cs capacity areas link ticks threads arms → IsJsonObject bytes m
-arms_object bytes m s f ds cs capacity areas link ticks threads arms has =
-    threads_object bytes m s f ds cs capacity areas link ticks threads has.has_threads
+pub threads_object : (bytes : List ℕ) (m : Members) (s f : ℕ) (ds : List Item) (cs : List Client)
+    (capacity areas room : ℕ) (link : Link) (ticks threads : ℕ)
+    → HasThreads bytes m s f ds cs capacity areas room link ticks threads → IsJsonObject bytes m
+threads_object bytes m s f ds cs capacity areas room link ticks threads has =
+    ticks_object bytes m s f ds cs capacity areas room link ticks has.has_ticks
+
+pub arms_object : (bytes : List ℕ) (m : Members) (s f : ℕ) (ds : List Item) (cs : List Client)
+    (capacity areas room : ℕ) (link : Link) (ticks threads : ℕ) (arms : List Arm)
+    → HasArms bytes m s f ds cs capacity areas room link ticks threads arms → IsJsonObject bytes m
+arms_object bytes m s f ds cs capacity areas room link ticks threads arms has =
+    threads_object bytes m s f ds cs capacity areas room link ticks threads has.has_threads
 
 one_given_capacity : (given : Option Data) (c d : ℕ) → GivesCapacity given c → GivesCapacity given d → c ≡ d
 one_given_capacity None c d a b = a ∙ sym b
@@ -110,6 +116,10 @@ pub one_of_areas : (given : Option Data) (capacity m n : ℕ) → GivesAreas giv
     → m ≡ n
 one_of_areas None capacity m n a b = a ∙ sym b
 one_of_areas (Some value) capacity m n a b = let e : whole m ≡ whole n = sym a.0 ∙ b.0 in cc
+
+pub one_of_room : (given : Option Data) (m n : ℕ) → GivesRoom given m → GivesRoom given n → m ≡ n
+one_of_room None m n a b = a ∙ sym b
+one_of_room (Some value) m n a b = let e : whole m ≡ whole n = sym a.0 ∙ b.0 in cc
 
 one_spelled_link : (m n : Members) (a b : Link) → m ≡ n → SpellLink m a → SpellLink n b → a ≡ b
 one_spelled_link m n a b same s t =
@@ -151,8 +161,10 @@ one_scenario bytes s t a b =
     let threads_t = b.has_arms.has_threads in
     let ticks_s = threads_s.has_ticks in
     let ticks_t = threads_t.has_ticks in
-    let areas_s = ticks_s.has_link.has_areas in
-    let areas_t = ticks_t.has_link.has_areas in
+    let room_s = ticks_s.has_link.has_room in
+    let room_t = ticks_t.has_link.has_room in
+    let areas_s = room_s.has_areas in
+    let areas_t = room_t.has_areas in
     let in_s = areas_s.has_capacity in
     let in_t = areas_t.has_capacity in
     let of_s = in_s.has_clients.has_containers.has_tolerated in
@@ -178,6 +190,9 @@ one_scenario bytes s t a b =
     let areas =
     one_of_areas (get_member (codes "areas") b.members) t.capacity s.areas t.areas
     (subst (λ ms. GivesAreas (get_member (codes "areas") ms) s.areas t.capacity) same of_capacity) areas_t.given in
+    let room =
+    one_of_room (get_member (codes "room") b.members) s.room t.room
+    (subst (λ ms. GivesRoom (get_member (codes "room") ms) s.room) same room_s.given) room_t.given in
     let link =
     one_link (get_member (codes "link") b.members) s.link t.link
     (subst (λ ms. GivesLink (get_member (codes "link") ms) s.link) same ticks_s.has_link.given)
@@ -203,6 +218,7 @@ one_scenario bytes s t a b =
       clients = clients i;
       capacity = capacity i;
       areas = areas i;
+      room = room i;
       link = link i;
       ticks = ticks i;
       threads = threads i;

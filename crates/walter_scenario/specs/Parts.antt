@@ -67,6 +67,10 @@ IsCapacity n = (19 ≤ n) × (n ≤ 1099511627776)
 abbrev pub IsAreas : ℕ → ℕ → Type 0
 IsAreas areas capacity = (areas ≡ 1) ⊎ ((areas ≡ 2) × (47 ≤ capacity))
 
+-- for how many entries a trail may have its memory from the start
+abbrev pub IsRoom : ℕ → Type 0
+IsRoom n = n ≤ 100000
+
 -- the keys of a link
 abbrev pub IsLinkKey : List ℕ → Type 0
 IsLinkKey key = (key ≡ codes "seed") ⊎ (key ≡ codes "lose") ⊎ (key ≡ codes "repeat") ⊎ (key ≡ codes "swap")

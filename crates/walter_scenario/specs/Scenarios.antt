@@ -1,5 +1,5 @@
 -- The scenario that bytes spell, and the place of what is wrong with them: JSON as serde_json reads it, whose outermost
--- value is an object with eleven keys, of which six may be absent (docs/FORMATS.md, "Scenarios").
+-- value is an object with twelve keys, of which seven may be absent (docs/FORMATS.md, "Scenarios").
 use Rattle.std.specs.Prelude.{◌≡◌, ◌⊎◌, ◌≤◌, ◌<◌, ℕ, List, [], length, codes, Option, Some, None, IsSome, IsUtf8}
 use Rattle.serde_json.specs.Data.{Data, Members, no_members, member, object}
 use Rattle.serde_json.specs.Find.{get_member}
@@ -8,14 +8,14 @@ use Rattle.walter_base.specs.Catalogs.{Item, containers_of}
 use Rattle.walter_base.specs.Vectors.{most_sites}
 use Rattle.walter_link.specs.declared.chooser.Link.{Link}
 use Rattle.walter_scenario.specs.declared.place.Place.{Place}
-use Rattle.walter_scenario.specs.declared.place.Place.TheVariants.{TooLong, Json, Key, Sites, F, Containers, Clients, Capacity, Areas, Link as AtLink, Ticks, Threads, Arms, Steps}
+use Rattle.walter_scenario.specs.declared.place.Place.TheVariants.{TooLong, Json, Key, Sites, F, Containers, Clients, Capacity, Areas, Room, Link as AtLink, Ticks, Threads, Arms, Steps}
 use Rattle.walter_scenario.specs.declared.place.ReadFault.{ReadFault}
 use Rattle.walter_scenario.specs.declared.place.ReadFault.TheVariants.{Refused, NoMemory}
 use Rattle.walter_scenario.specs.declared.scenario.Arm.{Arm}
 use Rattle.walter_scenario.specs.declared.scenario.Client.{Client}
 use Rattle.walter_scenario.specs.declared.scenario.Scenario.{Scenario}
 use Rattle.walter_scenario.specs.declared.scenario.Step.{Step}
-use Rattle.walter_scenario.specs.Parts.{whole, list, HasMember, AreContainers, AreClients, IsCapacity, IsAreas, SpellLink, IsTicks, IsThreads, AreArms, AreSteps, IsWrongAt}
+use Rattle.walter_scenario.specs.Parts.{whole, list, HasMember, AreContainers, AreClients, IsCapacity, IsAreas, IsRoom, SpellLink, IsTicks, IsThreads, AreArms, AreSteps, IsWrongAt}
 
 -- the keys that a scenario needs
 abbrev pub IsNeeded : List ℕ → Type 0
@@ -23,11 +23,11 @@ IsNeeded key =
     (key ≡ codes "sites") ⊎ (key ≡ codes "f") ⊎ (key ≡ codes "containers") ⊎ (key ≡ codes "clients")
     ⊎ (key ≡ codes "steps")
 
--- those, and six that may be absent
+-- those, and seven that may be absent
 abbrev pub IsKey : List ℕ → Type 0
 IsKey key =
-    IsNeeded key ⊎ (key ≡ codes "capacity") ⊎ (key ≡ codes "areas") ⊎ (key ≡ codes "link") ⊎ (key ≡ codes "ticks")
-    ⊎ (key ≡ codes "threads") ⊎ (key ≡ codes "arms")
+    IsNeeded key ⊎ (key ≡ codes "capacity") ⊎ (key ≡ codes "areas") ⊎ (key ≡ codes "room") ⊎ (key ≡ codes "link")
+    ⊎ (key ≡ codes "ticks") ⊎ (key ≡ codes "threads") ⊎ (key ≡ codes "arms")
 
 -- no other key is there
 abbrev pub AreKnown : Members → Type 0
@@ -49,6 +49,12 @@ GivesCapacity (Some value) capacity = (value ≡ whole capacity) × IsCapacity c
 abbrev pub GivesAreas : Option Data → (areas capacity : ℕ) → Type 0
 GivesAreas None areas capacity = areas ≡ 1
 GivesAreas (Some value) areas capacity = (value ≡ whole areas) × IsAreas areas capacity
+
+-- for how many entries the value of its key gives each trail its memory from the start, or for the common number where
+-- the key is absent
+abbrev pub GivesRoom : Option Data → ℕ → Type 0
+GivesRoom None room = room ≡ 0
+GivesRoom (Some value) room = (value ≡ whole room) × IsRoom room
 
 -- the link that the value of its key gives; all of it is 0 where the key is absent
 abbrev pub GivesLink : Option Data → Link → Type 0
@@ -127,37 +133,45 @@ pub record HasAreas (bytes : List ℕ) (members : Members) (sites tolerated : �
   pub has_capacity : HasCapacity bytes members sites tolerated declared clients capacity
   pub given : GivesAreas (get_member (codes "areas") members) areas capacity
 
+-- and room for so many entries of each trail
+pub record HasRoom (bytes : List ℕ) (members : Members) (sites tolerated : ℕ)
+    (declared : List Item) (clients : List Client) (capacity areas room : ℕ) : Type 0 where
+  pub has_areas : HasAreas bytes members sites tolerated declared clients capacity areas
+  pub given : GivesRoom (get_member (codes "room") members) room
+
 -- and this link
 pub record HasLink (bytes : List ℕ) (members : Members) (sites tolerated : ℕ)
-    (declared : List Item) (clients : List Client) (capacity areas : ℕ) (link : Link) : Type 0 where
-  pub has_areas : HasAreas bytes members sites tolerated declared clients capacity areas
+    (declared : List Item) (clients : List Client) (capacity areas room : ℕ) (link : Link) : Type 0 where
+  pub has_room : HasRoom bytes members sites tolerated declared clients capacity areas room
   pub given : GivesLink (get_member (codes "link") members) link
 
 -- and so many ticks
 pub record HasTicks (bytes : List ℕ) (members : Members) (sites tolerated : ℕ)
-    (declared : List Item) (clients : List Client) (capacity areas : ℕ) (link : Link) (ticks : ℕ) : Type 0 where
-  pub has_link : HasLink bytes members sites tolerated declared clients capacity areas link
+    (declared : List Item) (clients : List Client) (capacity areas room : ℕ) (link : Link)
+    (ticks : ℕ) : Type 0 where
+  pub has_link : HasLink bytes members sites tolerated declared clients capacity areas room link
   pub given : GivesTicks (get_member (codes "ticks") members) ticks
 
 -- and so many threads
 pub record HasThreads (bytes : List ℕ) (members : Members) (sites tolerated : ℕ)
-    (declared : List Item) (clients : List Client) (capacity areas : ℕ) (link : Link) (ticks threads : ℕ) : Type 0 where
-  pub has_ticks : HasTicks bytes members sites tolerated declared clients capacity areas link ticks
+    (declared : List Item) (clients : List Client) (capacity areas room : ℕ) (link : Link)
+    (ticks threads : ℕ) : Type 0 where
+  pub has_ticks : HasTicks bytes members sites tolerated declared clients capacity areas room link ticks
   pub given : GivesThreads (get_member (codes "threads") members) threads
 
 -- and these arms
 pub record HasArms (bytes : List ℕ) (members : Members) (sites tolerated : ℕ)
-    (declared : List Item) (clients : List Client) (capacity areas : ℕ) (link : Link) (ticks threads : ℕ)
+    (declared : List Item) (clients : List Client) (capacity areas room : ℕ) (link : Link) (ticks threads : ℕ)
     (arms : List Arm) : Type 0 where
-  pub has_threads : HasThreads bytes members sites tolerated declared clients capacity areas link ticks threads
+  pub has_threads : HasThreads bytes members sites tolerated declared clients capacity areas room link ticks threads
   pub given : GivesArms sites (get_member (codes "arms") members) arms
 
 -- the scenario is what the bytes spell
 pub record IsReading (bytes : List ℕ) (s : Scenario) : Type 0 where
   pub members : Members
   pub declared : List Item
-  pub has_arms : HasArms bytes members s.catalog.sites s.catalog.tolerated declared s.clients s.capacity s.areas s.link
-      s.ticks s.threads s.arms
+  pub has_arms : HasArms bytes members s.catalog.sites s.catalog.tolerated declared s.clients s.capacity s.areas s.room
+      s.link s.ticks s.threads s.arms
   pub containers : s.catalog.containers ≡ containers_of declared
   pub values : List Data
   pub spelled : HasMember members (codes "steps") (list values)
@@ -190,30 +204,36 @@ IsRefusedAt bytes Areas =
     (members : Members) × (sites : ℕ) × (tolerated : ℕ) × (declared : List Item) × (clients : List Client)
     × (capacity : ℕ) × HasCapacity bytes members sites tolerated declared clients capacity
     × ((areas : ℕ) → ¬ GivesAreas (get_member (codes "areas") members) areas capacity)
-IsRefusedAt bytes AtLink =
+IsRefusedAt bytes Room =
     (members : Members) × (sites : ℕ) × (tolerated : ℕ) × (declared : List Item) × (clients : List Client)
     × (capacity : ℕ) × (areas : ℕ) × HasAreas bytes members sites tolerated declared clients capacity areas
+    × ((room : ℕ) → ¬ GivesRoom (get_member (codes "room") members) room)
+IsRefusedAt bytes AtLink =
+    (members : Members) × (sites : ℕ) × (tolerated : ℕ) × (declared : List Item) × (clients : List Client)
+    × (capacity : ℕ) × (areas : ℕ) × (room : ℕ)
+    × HasRoom bytes members sites tolerated declared clients capacity areas room
     × ((link : Link) → ¬ GivesLink (get_member (codes "link") members) link)
 IsRefusedAt bytes Ticks =
     (members : Members) × (sites : ℕ) × (tolerated : ℕ) × (declared : List Item) × (clients : List Client)
-    × (capacity : ℕ) × (areas : ℕ) × (link : Link)
-    × HasLink bytes members sites tolerated declared clients capacity areas link
+    × (capacity : ℕ) × (areas : ℕ) × (room : ℕ) × (link : Link)
+    × HasLink bytes members sites tolerated declared clients capacity areas room link
     × ((ticks : ℕ) → ¬ GivesTicks (get_member (codes "ticks") members) ticks)
 IsRefusedAt bytes Threads =
     (members : Members) × (sites : ℕ) × (tolerated : ℕ) × (declared : List Item) × (clients : List Client)
-    × (capacity : ℕ) × (areas : ℕ) × (link : Link) × (ticks : ℕ)
-    × HasTicks bytes members sites tolerated declared clients capacity areas link ticks
+    × (capacity : ℕ) × (areas : ℕ) × (room : ℕ) × (link : Link) × (ticks : ℕ)
+    × HasTicks bytes members sites tolerated declared clients capacity areas room link ticks
     × ((threads : ℕ) → ¬ GivesThreads (get_member (codes "threads") members) threads)
 IsRefusedAt bytes (Arms place) =
     (members : Members) × (sites : ℕ) × (tolerated : ℕ) × (declared : List Item) × (clients : List Client)
-    × (capacity : ℕ) × (areas : ℕ) × (link : Link) × (ticks : ℕ) × (threads : ℕ) × (value : Data)
-    × HasThreads bytes members sites tolerated declared clients capacity areas link ticks threads
+    × (capacity : ℕ) × (areas : ℕ) × (room : ℕ) × (link : Link) × (ticks : ℕ) × (threads : ℕ) × (value : Data)
+    × HasThreads bytes members sites tolerated declared clients capacity areas room link ticks threads
     × HasMember members (codes "arms") value
     × IsWrongAt (λ values. (arms : List Arm) × AreArms sites values arms) value place
 IsRefusedAt bytes (Steps place) =
     (members : Members) × (sites : ℕ) × (tolerated : ℕ) × (declared : List Item) × (clients : List Client)
-    × (capacity : ℕ) × (areas : ℕ) × (link : Link) × (ticks : ℕ) × (threads : ℕ) × (arms : List Arm) × (value : Data)
-    × HasArms bytes members sites tolerated declared clients capacity areas link ticks threads arms
+    × (capacity : ℕ) × (areas : ℕ) × (room : ℕ) × (link : Link) × (ticks : ℕ) × (threads : ℕ) × (arms : List Arm)
+    × (value : Data)
+    × HasArms bytes members sites tolerated declared clients capacity areas room link ticks threads arms
     × HasMember members (codes "steps") value
     × IsWrongAt (λ values. (steps : List Step) × AreSteps sites (length clients) values steps) value place
 

@@ -9,16 +9,19 @@ use crate::lists::Clients;
 use crate::members::Parts;
 use crate::numbers::{sites_of, tolerated_of};
 use crate::place::{Place, ReadFault};
+use crate::room::room_of;
 use std::alloc::Global;
 use walter_base::Catalog;
 
-/// What is played on: the sites with their containers, the clients, and the capacity and the areas of each journal.
+/// What is played on: the sites with their containers, the clients, the capacity and the areas of each journal, and for
+/// how many entries each trail has its memory from the start.
 #[derive(Drop)]
 pub struct Grounds {
     pub catalog: Catalog,
     pub clients: Clients,
     pub capacity: u64,
     pub areas: u8,
+    pub room: u32,
 }
 
 /// The grounds that the parts spell.
@@ -33,10 +36,12 @@ pub fn grounds_of(alloc: Global, parts: Parts<'_>) -> Result<Grounds, ReadFault>
     let clients = clients_of(alloc, sites, parts.clients)?;
     let capacity = capacity_of(parts.capacity).ok_or(Place::Capacity)?;
     let areas = areas_of(parts.areas, capacity).ok_or(Place::Areas)?;
+    let room = room_of(parts.room).ok_or(Place::Room)?;
     Ok(Grounds {
         catalog,
         clients: Clients::from(clients),
         capacity,
         areas,
+        room,
     })
 }

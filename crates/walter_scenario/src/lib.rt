@@ -16,6 +16,7 @@ mod members;
 mod numbers;
 mod place;
 mod reading;
+mod room;
 mod scenario;
 mod settings;
 mod step_fault;
@@ -30,8 +31,8 @@ pub use lists::{Arms, Clients, Steps};
 pub use place::{Detail, Place, ReadFault, Refusal};
 pub use reading::read;
 pub use scenario::{
-    Arm, COMMON_AREAS, COMMON_CAPACITY, COMMON_THREADS, COMMON_TICKS, Client, GREATEST_CAPACITY,
-    GREATEST_RATE, LAST_ARMED, LEAST_CAPACITY, LEAST_CAPACITY_OF_TWO, LEAST_THREADS, LONGEST_TEXT,
-    MOST_CLIENTS, MOST_THREADS, MOST_TICKS, Scenario, Step,
+    Arm, COMMON_AREAS, COMMON_CAPACITY, COMMON_ROOM, COMMON_THREADS, COMMON_TICKS, Client,
+    GREATEST_CAPACITY, GREATEST_RATE, LAST_ARMED, LEAST_CAPACITY, LEAST_CAPACITY_OF_TWO,
+    LEAST_THREADS, LONGEST_TEXT, MOST_CLIENTS, MOST_ROOM, MOST_THREADS, MOST_TICKS, Scenario, Step,
 };
 pub use step_fault::{StepFault, StepForm};

@@ -8,7 +8,7 @@ use crate::place::Detail;
 use serde_json::{Map, Value};
 use std::alloc::Global;
 
-/// The values of the keys. Six keys may be absent.
+/// The values of the keys. Seven keys may be absent.
 #[derive(Clone, Copy)]
 pub struct Parts<'a> {
     pub sites: &'a Value,
@@ -17,6 +17,7 @@ pub struct Parts<'a> {
     pub clients: &'a Value,
     pub capacity: Option<&'a Value>,
     pub areas: Option<&'a Value>,
+    pub room: Option<&'a Value>,
     pub link: Option<&'a Value>,
     pub ticks: Option<&'a Value>,
     pub threads: Option<&'a Value>,
@@ -36,6 +37,7 @@ fn is_key(name: &str) -> bool
             | "steps"
             | "capacity"
             | "areas"
+            | "room"
             | "link"
             | "ticks"
             | "threads"
@@ -88,6 +90,7 @@ pub fn parts_of(members: &Map<String, Value>) -> Option<Parts<'_>>
         clients: member(members, "clients")?,
         capacity: member(members, "capacity"),
         areas: member(members, "areas"),
+        room: member(members, "room"),
         link: member(members, "link"),
         ticks: member(members, "ticks"),
         threads: member(members, "threads"),

@@ -14,7 +14,7 @@ pub enum Place {
     Json,
     /// A key is none of a scenario's, or one is wanting.
     #[error("the keys: wants sites, f, containers, clients and steps, \
-        and takes capacity, areas, link, ticks, threads and arms besides")]
+        and takes capacity, areas, room, link, ticks, threads and arms besides")]
     Key,
     #[error("sites: wants a whole number from 1 to 8")]
     Sites,
@@ -32,6 +32,8 @@ pub enum Place {
     Capacity,
     #[error("the areas: wants 1 or 2, and 2 only where the capacity is at least 47")]
     Areas,
+    #[error("the room: wants a whole number from 0 to 100000")]
+    Room,
     #[error("the link: wants an object of just seed, a whole number below 2^64, and lose, repeat and swap, \
         whole numbers from 0 to 1000")]
     Link,

@@ -29,6 +29,7 @@ fn scenario_on(alloc: Global, grounds: Grounds, parts: Parts<'_>) -> Result<Scen
         clients: grounds.clients,
         capacity: grounds.capacity,
         areas: grounds.areas,
+        room: grounds.room,
         link: settings.link,
         ticks: settings.ticks,
         threads: settings.threads,

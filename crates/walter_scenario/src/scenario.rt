@@ -23,6 +23,12 @@ pub const COMMON_AREAS: u8 = 1;
 /// The least capacity of a journal of two areas, in bytes: each of them has place for the first epoch.
 pub const LEAST_CAPACITY_OF_TWO: u64 = 47;
 
+/// The most entries for which a trail may have its memory from the start.
+pub const MOST_ROOM: u32 = 100_000;
+
+/// For how many entries each trail has its memory from the start, where a scenario names no number.
+pub const COMMON_ROOM: u32 = 0;
+
 /// The greatest rate of a link, of 1,000 packets.
 pub const GREATEST_RATE: u16 = 1000;
 
@@ -90,14 +96,16 @@ pub enum Step {
 }
 
 /// What is to be played: the sites and their containers, the clients by their numbers from 0, the capacity of each
-/// site's journal in bytes, how many areas it has, the link between the sites, how many ticks each site may make when
-/// it is pumped, how many client threads a threaded run has, what is armed before the first step, and the script.
+/// site's journal in bytes, how many areas it has, for how many entries each trail has its memory from the start, the
+/// link between the sites, how many ticks each site may make when it is pumped, how many client threads a threaded run
+/// has, what is armed before the first step, and the script.
 #[derive(Debug, Drop)]
 pub struct Scenario {
     pub catalog: Catalog,
     pub clients: Clients,
     pub capacity: u64,
     pub areas: u8,
+    pub room: u32,
     pub link: Link,
     pub ticks: u32,
     pub threads: u8,

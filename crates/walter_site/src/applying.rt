@@ -61,6 +61,7 @@ pub fn take_in(
         → IsNewsIn (site_of tables.old) K input.now outcome.now
         → Stands tables.new (heard (Event.Given input.now) outcome.now
         (answered (catalog_of tables.old) (Event.Given input.now) outcome.now wrote K)) }
+    ensures tick { input.now ≡ Given.Tick → tables.new ≡ tables.old }
     ensures site { site_of tables.new ≡ site_of tables.old }
     ensures catalog { catalog_of tables.new ≡ catalog_of tables.old }
 {

@@ -104,6 +104,7 @@ impl Site {
             → expected_of plan.planned ≡ input_rule (catalog_of self.old) (site_of self.old) K input.now
             → Knows self.new (after (catalog_of self.old) (site_of self.old) K (Event.Given input.now)
             plan.planned.outcome plan.planned.rec) }
+        ensures tick { input.now ≡ Given.Tick → self.new ≡ self.old }
         ensures outcome { result.0 ≡ plan.planned.outcome }
         ensures sends { result.1 ≡ plan.planned.sends }
         ensures site { site_of self.new ≡ site_of self.old }

@@ -2,6 +2,8 @@
 #![tactic(auto)]
 
 #[cfg(test)]
+mod any_bytes;
+#[cfg(test)]
 mod fields;
 #[cfg(test)]
 mod made;

@@ -60,6 +60,15 @@ static SPELLINGS: [(&[&[u8]], (u8, u64, u64)); 17] = [
     (&[&[8], &MOST], (8, u64::MAX, 0)),
 ];
 
+/// The spellings of these.
+pub(crate) fn spellings(alloc: Global) -> Result<Vec<Vec<u8>>, Fail> {
+    let mut all = Vec::new(alloc);
+    for &(parts, _) in &SPELLINGS {
+        all.push(joined(alloc, parts)?)?;
+    }
+    Ok(all)
+}
+
 #[test]
 fn packets_are_read_and_written_again(rt: HostRuntime) -> Result<(), Fail> {
     for &(parts, wanted) in &SPELLINGS {

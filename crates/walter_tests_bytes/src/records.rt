@@ -59,6 +59,15 @@ static SPELLINGS: [(&[&[u8]], (u8, u8, u64, u64)); 14] = [
     (&[&[9, 0, 0, 0, 0, 0, 0, 0, 2], &NUMBER_1], (9, 0, 2, 1)),
 ];
 
+/// The spellings of these.
+pub(crate) fn spellings(alloc: Global) -> Result<Vec<Vec<u8>>, Fail> {
+    let mut all = Vec::new(alloc);
+    for &(parts, _) in &SPELLINGS {
+        all.push(joined(alloc, parts)?)?;
+    }
+    Ok(all)
+}
+
 #[test]
 fn records_are_read_and_written_again(rt: HostRuntime) -> Result<(), Fail> {
     for &(parts, wanted) in &SPELLINGS {

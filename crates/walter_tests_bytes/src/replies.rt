@@ -121,6 +121,15 @@ fn read(alloc: Global, spelling: &[u8]) -> Result<String, Fail> {
     }
 }
 
+/// The spellings of these.
+pub(crate) fn spellings(alloc: Global) -> Result<Vec<Vec<u8>>, Fail> {
+    let mut all = Vec::new(alloc);
+    for &(_, spelling) in &SPELLINGS {
+        all.push(spelling.to_vec(alloc)?)?;
+    }
+    Ok(all)
+}
+
 #[test]
 fn each_reply_has_its_spelling(rt: HostRuntime) -> Result<(), Fail> {
     for &(shown, spelling) in &SPELLINGS {

@@ -64,10 +64,16 @@ fn is_told(tx: &Tx) -> bool {
     }
 }
 
+/// The bytes of a transaction with these updates.
+fn with_updates(alloc: Global) -> Result<Vec<u8>, AllocError> {
+    let mut bytes = head(alloc, 3)?;
+    bytes.extend_from_slice(&joined(alloc, &UPDATES)?)?;
+    Ok(bytes)
+}
+
 #[test]
 fn a_spelling_is_read_and_written_again(rt: HostRuntime) -> Result<(), Fail> {
-    let mut bytes = head(rt.alloc(), 3)?;
-    bytes.extend_from_slice(&joined(rt.alloc(), &UPDATES)?)?;
+    let bytes = with_updates(rt.alloc())?;
     let Some(tx) = decode(rt.alloc(), &bytes, 1)? else {
         return Err("the bytes are a transaction".into());
     };
@@ -103,6 +109,15 @@ fn large(alloc: Global, additions: u16, writes: u16, length: u16) -> Result<Vec<
     }
     push_write(&mut bytes, length)?;
     Ok(bytes)
+}
+
+/// Spellings of transactions: with an update of each kind, with a write alone, and with many additions.
+pub(crate) fn spellings(alloc: Global) -> Result<Vec<Vec<u8>>, Fail> {
+    Ok(vec![in alloc;
+        with_updates(alloc)?,
+        replaced(alloc, 0, 0, 109)?,
+        large(alloc, 20, 0, 0)?,
+    ]?)
 }
 
 /// The place of a byte, that byte, where the bytes are cut off, how many sites there are, and whether a transaction is

@@ -60,7 +60,7 @@ fn areas_in(two: bool, capacity: u64) -> u8
 }
 
 /// What a load comes to: the book and its bodies, or the fault.
-fn loaded(
+pub(crate) fn loaded(
     alloc: Global,
     disk: MemoryDisk,
     two: bool,
@@ -91,7 +91,7 @@ fn empty(alloc: Global, two: bool, capacity: u64) -> Result<Book<MemoryDisk>, Fa
 }
 
 /// The disk of a book with the first epoch and the first commit.
-fn filled(alloc: Global, two: bool, capacity: u64) -> Result<MemoryDisk, Fail> {
+pub(crate) fn filled(alloc: Global, two: bool, capacity: u64) -> Result<MemoryDisk, Fail> {
     let mut book = empty(alloc, two, capacity)?;
     append(&mut book, BOOT)??;
     append(&mut book, &FIRST_COMMIT)??;
@@ -256,20 +256,21 @@ fn count_behind_a_failed_load(alloc: Global, choice: u64) -> Result<usize, Fail>
     }
 }
 
-/// How many bodies a book of two areas has behind so many restarts, each over the disk of the last.
-fn count_behind_restarts(alloc: Global, restarts: usize) -> Result<usize, Fail> {
+/// The disk of a book of two areas behind so many restarts, each over the disk of the last.
+pub(crate) fn disk_behind_restarts(alloc: Global, restarts: usize) -> Result<MemoryDisk, Fail> {
     let mut disk = filled(alloc, true, 1_000)?;
     for _ in 0..restarts {
         let (book, _ended) = restarted(alloc, disk, true, 1_000, NEVER)?;
         disk = book.into_disk();
     }
-    count_of(alloc, disk, true, 1_000)
+    Ok(disk)
 }
 
 #[test]
 fn each_restart_packs_what_the_last_left(rt: HostRuntime) -> Result<(), Fail> {
     for (restarts, wanted) in [(0, 2), (1, 3), (2, 4), (5, 7)] {
-        assert_eq!(rt; count_behind_restarts(rt.alloc(), restarts)?, wanted);
+        let disk = disk_behind_restarts(rt.alloc(), restarts)?;
+        assert_eq!(rt; count_of(rt.alloc(), disk, true, 1_000)?, wanted);
     }
     Ok(())
 }

@@ -15,7 +15,7 @@ pub(crate) const LONGEST_BODY: usize = 65_536;
 pub(crate) const BOOT: &[u8] = &[1, 0, 0, 0, 1];
 
 /// What a load comes to: the journal and its bodies, or the fault.
-fn loaded(
+pub(crate) fn loaded(
     alloc: Global,
     disk: MemoryDisk,
     capacity: u64,

@@ -1,4 +1,4 @@
-//! A bench whose clients' sinks keep what is written to them.
+//! A bench of two clients, of whom one has a source that fails, and whose sinks keep what is written to them.
 ghost use Rattle.std.specs.Prelude.{◌≡◌, ◌<◌, length, IfOk, All};
 ghost use Rattle.walter_scenario.specs.declared.scenario.Client.{Client};
 
@@ -9,20 +9,22 @@ use walter_cluster::{Bench, Closed, build};
 use walter_conn::Conn;
 use walter_disk_memory::MemoryDisk;
 use walter_scenario::read;
-use walter_stream::{BytesSource, MemorySink};
+use walter_stream::{MemorySink, MemorySource};
+use walter_trail::Trail;
 
-type MemoryLine = Line<BytesSource, MemorySink>;
+type MemoryLine = Line<MemorySource, MemorySink>;
 
-type MemoryBench = Bench<MemoryDisk, BytesSource, MemorySink>;
+type MemoryBench = Bench<MemoryDisk, MemorySource, MemorySink>;
 
 /// How many bytes the sinks of the two clients have room for, and in which order the clients have their turns.
 const ROOMS: [usize; 2] = [100, 20];
 
 const TURNS: [u32; 6] = [0, 1, 1, 0, 1, 0];
 
-/// A connection with a client that sends these bytes, to a sink with room for so many.
-fn line(alloc: Global, bytes: &[u8], room: usize) -> Result<MemoryLine> {
-    let source = BytesSource::from(bytes.to_vec(alloc)?);
+/// A connection with a client that sends these bytes, of a source that fails at these reads, to a sink with room for so
+/// many.
+fn line(alloc: Global, bytes: &[u8], failing: Vec<u64>, room: usize) -> Result<MemoryLine> {
+    let source = MemorySource::new(bytes.to_vec(alloc)?, failing);
     let sink = MemorySink::with_room(alloc, room, Vec::new(alloc))?;
     match Conn::new(alloc, source, sink) {
         Ok(conn) => Ok(Line::new(conn)),
@@ -88,8 +90,27 @@ fn push_held(alloc: Global, held: &mut String, lines: Vec<Option<MemoryLine>>) -
     Ok(())
 }
 
-/// What the turns of the two clients of a scenario come to, and what their sinks hold then.
-pub(crate) fn answers_and_held(alloc: Global, text: &str) -> Result<String> {
+/// What came of each event of a trail, in a line.
+fn outcomes_of(alloc: Global, trail: &Trail) -> Result<String> {
+    let mut outcomes = String::from_str(alloc, "trail:")?;
+    for entry in trail.as_slice() {
+        outcomes.push_str(&format!(in alloc; " {:?}", entry.came.outcome)?)?;
+    }
+    Ok(outcomes)
+}
+
+/// The same of all trails comes behind this.
+fn push_outcomes(alloc: Global, said: &mut String, trails: &[Trail]) -> Result<()> {
+    for trail in trails {
+        said.push_str(&outcomes_of(alloc, trail)?)?;
+        said.push_str("\n")?;
+    }
+    Ok(())
+}
+
+/// What the turns of the two clients of a scenario come to, what their sinks hold then, and what the trails say. The
+/// source of the first client fails at these reads.
+pub(crate) fn answers_and_held(alloc: Global, failing: Vec<u64>, text: &str) -> Result<String> {
     let Ok(scenario) = read(alloc, text.as_bytes()) else {
         bail!("no scenario");
     };
@@ -97,13 +118,14 @@ pub(crate) fn answers_and_held(alloc: Global, text: &str) -> Result<String> {
     let [first, second] = scenario.clients.as_slice() else {
         bail!("the scenario hasn't two clients");
     };
-    let first = line(alloc, first.bytes.as_slice(), ROOMS[0])?;
-    let second = line(alloc, second.bytes.as_slice(), ROOMS[1])?;
+    let first = line(alloc, first.bytes.as_slice(), failing, ROOMS[0])?;
+    let second = line(alloc, second.bytes.as_slice(), Vec::new(alloc), ROOMS[1])?;
     let mut bench = bench_of(alloc, &scenario, first, second)?;
     let mut said = turn_all(alloc, &mut bench, clients, &TURNS)?;
-    let Closed { conns, .. } = bench.close();
+    let Closed { trails, conns, .. } = bench.close();
     for lines in conns {
         push_held(alloc, &mut said, lines)?;
     }
+    push_outcomes(alloc, &mut said, &trails)?;
     Ok(said)
 }

@@ -21,9 +21,10 @@ fn list_of<'a>(given: &'a str, key: &str) -> &'a str {
     ""
 }
 
-fn numbers_of(alloc: Global, list: &str) -> Mem<Vec<u64>> {
+/// The numbers that are given behind this key.
+pub(crate) fn numbers_given(alloc: Global, given: &str, key: &str) -> Mem<Vec<u64>> {
     let mut numbers = Vec::new(alloc);
-    for word in list.split(',') {
+    for word in list_of(given, key).split(',') {
         if let Ok(number) = word.parse() {
             numbers.push(number)?;
         }
@@ -72,7 +73,8 @@ fn said(alloc: Global, ended: &Ended, written: &str, disks: &str) -> Mem<String>
 }
 
 /// What comes of these words and this scenario. Given are the numbers of the reads, the writes and the calls of the
-/// rack that fail, and what the disks hold, as in `reads=2 writes=1 racks=2,3 disks=00,ff`.
+/// rack that fail, for how many bytes the sink has room, and what the disks hold, as in
+/// `reads=2 writes=1 racks=2,3 room=100 disks=00,ff`.
 pub(crate) fn end(
     rt: &(impl AllocGlobal + Threads + Wait + Sync),
     words: &str,
@@ -81,11 +83,12 @@ pub(crate) fn end(
 ) -> Result<String> {
     let alloc = rt.alloc();
     let bytes = scenario.as_bytes().to_vec(alloc)?;
-    let mut source = MemorySource::new(bytes, numbers_of(alloc, list_of(given, "reads="))?);
-    let failing = numbers_of(alloc, list_of(given, "writes="))?;
-    let mut sink = MemorySink::with_room(alloc, 1_000_000, failing)?;
+    let mut source = MemorySource::new(bytes, numbers_given(alloc, given, "reads=")?);
+    let failing = numbers_given(alloc, given, "writes=")?;
+    let room = list_of(given, "room=").parse().unwrap_or(1_000_000);
+    let mut sink = MemorySink::with_room(alloc, room, failing)?;
     let mut rack = MemoryRack::holding(alloc, contents_of(alloc, list_of(given, "disks="))?);
-    rack.set_failing(numbers_of(alloc, list_of(given, "racks="))?);
+    rack.set_failing(numbers_given(alloc, given, "racks=")?);
     let ended = top(
         rt,
         &words_of(alloc, words)?,

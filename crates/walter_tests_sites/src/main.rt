@@ -10,28 +10,35 @@
 //! | `called WORDS..` | how the program ends that is called with these words, where nothing can be read |
 //! | `read SCENARIO`, `bytes HEX` | the scenario that the text or the bytes spell, or what is wrong with them |
 //! | `memory` | what is said where memory runs out |
+//! | `stops SCENARIO`, `stops-in-turn SCENARIO` | what becomes of it where the disk of each site is stopped at each of its calls, by each of three choices, or by these in turn: see `stops` |
 //! | `random SEEDS` | whether so many runs at random are so, and enough happens in them |
 //! | `spread SEEDS` | whether behind so many runs at random all commits come to all sites |
 //! | `files SCENARIO` | how `play` ends over the files of a folder: an empty one, the same again, and once it is gone |
-//! | `sinks SCENARIO` | what the turns of a bench's two clients come to, and what their sinks hold |
+//! | `sinks GIVEN.. SCENARIO` | what the turns of a bench's two clients come to, what their sinks hold, and what the trails say |
 #![tactic(auto)]
 
 mod benches;
 mod ending;
 mod files;
+mod journals;
 mod playing;
+mod racks;
 mod schedules;
+mod stops;
 mod texts;
 mod worlds;
 
 use crate::benches::answers_and_held;
-use crate::ending::{end, reading, want_of_memory};
+use crate::ending::{end, numbers_given, reading, want_of_memory};
 use crate::files::play_over_files;
+use crate::journals::Flights;
 use crate::playing::{Run, legal_history, play};
 use crate::schedules::{play_at_random, spread_all};
+use crate::stops::{PASSES, stop_all};
 use crate::texts::{end_of, expanded};
 use crate::worlds::is_same_in_a_world;
 use anyhow::{Result, bail};
+use std::alloc::Global;
 use std::fs::{File, Files};
 use std::path::PathBuf;
 use std::sync::Wait;
@@ -55,7 +62,9 @@ fn play_line(
 ) -> Result<String> {
     let run = play(rt, command == "trace", scenario)?;
     let told = told(rt, scenario, &run)?;
-    Ok(format!(in rt.alloc(); "{}{told}", run.report)?)
+    let said = format!(in rt.alloc(); "{}{told}", run.report)?;
+    Flights::none().count(rt.alloc(), scenario, run)?;
+    Ok(said)
 }
 
 fn play_in_brief(
@@ -78,6 +87,14 @@ fn end_line(
     end(rt, command, given, scenario)
 }
 
+// What is given stands before the scenario here too.
+fn sinks_line(alloc: Global, given_and_scenario: &str) -> Result<String> {
+    let (given, scenario) = given_and_scenario
+        .rsplit_once(' ')
+        .unwrap_or(("", given_and_scenario));
+    answers_and_held(alloc, numbers_given(alloc, given, "reads=")?, scenario)
+}
+
 // What a command comes to. The folder is where `files` makes one.
 fn answer(
     rt: &(impl AllocGlobal + Threads + Wait + Sync + Files<File = File>),
@@ -95,9 +112,11 @@ fn answer(
         "read" => Ok(reading(alloc, rest.as_bytes())?),
         "bytes" => Ok(reading(alloc, &hex::decode(alloc, rest)?)?),
         "memory" => Ok(want_of_memory(alloc)?),
+        "stops" => stop_all(rt, rest, PASSES),
+        "stops-in-turn" => stop_all(rt, rest, 1),
         "random" => play_at_random(rt, rest.parse().unwrap_or(0)),
         "spread" => spread_all(rt, rest.parse().unwrap_or(0)),
-        "sinks" => answers_and_held(alloc, rest),
+        "sinks" => sinks_line(alloc, rest),
         "files" => play_over_files(rt, folder, rest),
         _ => bail!("no line of this kind"),
     }

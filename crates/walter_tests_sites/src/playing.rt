@@ -1,20 +1,23 @@
 //! Scenarios, played by the program over empty disks in memory.
+use crate::racks::KeepingRack;
 use anyhow::{Result, bail};
 use std::alloc::Global;
 use std::sync::Wait;
 use std::thread::Threads;
 use walter_cli::{Ended, top};
-use walter_disk_memory::MemoryRack;
+use walter_disk_memory::MemoryDisk;
 use walter_psi::first_illegal;
 use walter_psi_of::{Steps, psi_of};
 use walter_stream::{BytesSource, MemorySink};
 use walter_trail::{Trail, merge};
 
-/// The trails of a scenario that is played to its end, and the report that is written of it.
+/// The trails of a scenario that is played to its end, the report that is written of it, and the disks that are given
+/// back, by the numbers of their sites.
 #[derive(Drop)]
 pub(crate) struct Run {
     pub trails: Vec<Trail>,
     pub report: String,
+    pub disks: Vec<MemoryDisk>,
 }
 
 // The words of the program.
@@ -36,13 +39,17 @@ pub(crate) fn play(
     let words = words_for(alloc, is_traced)?;
     let mut source = BytesSource::from(scenario.as_bytes().to_vec(alloc)?);
     let mut sink = MemorySink::with_room(alloc, 2_000_000, Vec::new(alloc))?;
-    let mut rack = MemoryRack::new(alloc);
+    let mut rack = KeepingRack::new(alloc);
     let Ended { status, trails, .. } = top(rt, &words, &mut source, &mut sink, &mut rack);
     if status != 0 {
         bail!("the program ends with the status {status}");
     }
     let report = String::from_str(alloc, str::from_utf8(sink.as_slice())?)?;
-    Ok(Run { trails, report })
+    Ok(Run {
+        trails,
+        report,
+        disks: rack.into_given(),
+    })
 }
 
 /// The history that the trails spell, in which the checker finds no step that isn't legal.

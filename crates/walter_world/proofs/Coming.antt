@@ -1,6 +1,6 @@
 -- What is ready comes to what the rule says; or its record meets a fault.
 use Rattle.std.proofs.Common.{◌≡◌, ℕ, Bool, true, false, List, [], Option, Some, None, refl, ap, sym, ◌∙◌, subst, length, reverse, ◌<◌, inl}
-use Rattle.std.specs.Prelude.{◌↔◌, IsTrue, IfSome, IsSome, All, is_some}
+use Rattle.std.specs.Prelude.{◌≢◌, IfSome, IsSome, All, is_some}
 use Rattle.std.proofs.lemmas.List.Elements.{All-nil}
 use Rattle.walter_base.specs.declared.catalog.Catalog.{Catalog}
 use Rattle.walter_base.specs.declared.message.Record.{Record}
@@ -11,6 +11,7 @@ use Rattle.walter_machine.specs.Machines.{catalog_in, site_in, tables_in, is_up,
 use Rattle.walter_machine.specs.Readiness.{IsReadyFor, came_in, rec_in}
 use Rattle.walter_machine.specs.States.{IsState}
 use Rattle.walter_machine.specs.Steps.{expected_by}
+use Rattle.walter_machine.proofs.Answers.{expects, rests}
 use Rattle.walter_packet.specs.Spelling.{HasPacketSpelling}
 use Rattle.walter_rules.specs.declared.entry.Came.{Came}
 use Rattle.walter_rules.specs.declared.event.Event.{Event}
@@ -18,8 +19,8 @@ use Rattle.walter_rules.specs.declared.event.Event.TheVariants.{Given, Stop, Res
 use Rattle.walter_rules.specs.Calls.{Expected}
 use Rattle.walter_rules.specs.Knowledge.{Knowledge}
 use Rattle.walter_rules.specs.Rule.{rule}
-use Rattle.walter_rules.specs.Standing.{Standing, settled}
-use Rattle.walter_rules.specs.Trails.{TakesMemory, only, failure}
+use Rattle.walter_rules.specs.Standing.{Standing, settled, stands_after}
+use Rattle.walter_rules.specs.Trails.{only, failure}
 use Rattle.walter_tables.specs.declared.tables.Tables.{Tables}
 use Rattle.walter_tables.specs.Sites.{site_of, catalog_of, Stands}
 use Rattle.walter_world.specs.declared.events.Fate.{Fate}
@@ -96,31 +97,17 @@ pub fallen_spelled : (sites : ℕ) (event : Event) (rec : Option Record) (came :
 fallen_spelled sites event None came there is = absurd cc
 fallen_spelled sites event (Some r) came there is = none_spelled sites came (ap (λ (x : Came). x.sends) is)
 
--- ---- where no site is to come up
+-- ---- where it is up
 
 -- it is up by its tables
 pub up_is : (S : Standing) (site : Option Tables) → IsState S site → S.up ≡ is_some site
 up_is S None down = down
 up_is S (Some tables) up = up.up
 
--- nothing is found
-pub finds_nothing : (event : Event) (keeps : Bool) (S : Standing) → MayFind event keeps → (event ≡ Restart → S.up ≡ true)
-    → found_by keeps S ≡ None
-finds_nothing (Given input) keeps S finds up = found_none keeps S finds
-finds_nothing Stop keeps S finds up = found_none keeps S finds
-finds_nothing Restart keeps S finds up = found_up keeps S (up refl)
-
--- and it is known how many records there are, where one comes
-pub counted : (m : Machine) (S : Standing) (event : Event) (rec : Option Record) → HasStanding m S
-    → IfSome rec (λ r. TakesMemory S.up event) → (event ≡ Restart → S.up ≡ true) → IsCounted m S rec
-counted m S event None stands takes up = tt
-counted m S event (Some rec) stands takes up = stands.count (inl (by S.up event takes up))
-  where
-    by : (b : Bool) (e : Event) → TakesMemory b e → (e ≡ Restart → b ≡ true) → b ≡ true
-    by true e takes up = refl
-    by false Restart takes up = up refl
-    by false (Given input) takes up = absurd takes
-    by false Stop takes up = absurd takes
+-- it is known how many records there are, where one comes
+counted : (m : Machine) (S : Standing) (rec : Option Record) → HasStanding m S → S.up ≡ true → IsCounted m S rec
+counted m S None stands up = tt
+counted m S (Some rec) stands up = stands.count (inl up)
 
 -- what holds of the site of one machine holds of that of another, where they are the same
 pub at_old : (old new : Machine) (P : Catalog → SiteId → Type 0) → IsSameSite old new
@@ -141,29 +128,58 @@ abbrev Comes : Machine → Ready → Event → Fate → Came → Machine → Typ
 Comes m ready event fate came new = (S : Standing) → HasStanding m S → IsCounted m S (rec_in ready)
     → IsReadyAt m S event ready → HasCome (catalog_in m) (site_in m) S event None fate came new
 
-pub not_rising : (rises up : Bool) (event : Event) → IsTrue rises ↔ (up ≡ false) × (event ≡ Restart) → rises ≡ false
-    → event ≡ Restart → up ≡ true
-not_rising rises true event is still restart = refl
-not_rising rises false event is still restart = let yes : rises ≡ true = is.1 (refl, restart) in absurd cc
-
-pub given : (seat : Seat) (m n new : Machine) (event : Event) (keeps : Bool) (fate : Fate) (ready : Ready) (came : Came)
-    → CanTake (catalog_in seat.machine) (site_in seat.machine) seat event keeps
-    → (event ≡ Restart → is_up seat.machine ≡ true) → IsSameSite seat.machine m → IsSameSite m n
-    → HasStanding n (standing_of seat)
-    → IsReadyFor (catalog_in m) (site_in m) (tables_in n) (standing_of seat) event ready
+pub given : (seat : Seat) (n new : Machine) (event : Event) (keeps : Bool) (fate : Fate) (ready : Ready) (came : Came)
+    → IsSeat (catalog_in seat.machine) (site_in seat.machine) seat → is_up seat.machine ≡ true
+    → IsSameSite seat.machine n → HasStanding n (standing_of seat)
+    → IsReadyFor (catalog_in seat.machine) (site_in seat.machine) (tables_in n) (standing_of seat) event ready
     → Comes n ready event fate came new
     → HasCome (catalog_in seat.machine) (site_in seat.machine) (standing_of seat) event (found_by keeps (standing_of seat)) fate
     came new
-given seat m n new event keeps fate ready came can rests same then stands is comes =
+given seat n new event keeps fate ready came seat_is raised same stands is comes =
     let S : Standing = standing_of seat in
-    let up : event ≡ Restart → S.up ≡ true =
-    (λ (restart : event ≡ Restart). up_is S seat.machine.site can.seat_is.stands.state ∙ rests restart) in
+    let up : S.up ≡ true = up_is S seat.machine.site seat_is.stands.state ∙ raised in
     subst (λ (f : Option Record). HasCome (catalog_in seat.machine) (site_in seat.machine) S event f fate came new)
-    (sym (finds_nothing event keeps S can.finds up))
-    (at_old seat.machine m (λ (c : Catalog). λ (i : SiteId). HasCome c i S event None fate came new) same
-    (at_old m n (λ (c : Catalog). λ (i : SiteId). HasCome c i S event None fate came new) then
-    (comes S stands (counted n S event (rec_in ready) stands is.takes up)
-    (at_new m n (λ (c : Catalog). λ (i : SiteId). IsReadyFor c i (tables_in n) S event ready) then is))))
+    (sym (found_up keeps S up))
+    (at_old seat.machine n (λ (c : Catalog). λ (i : SiteId). HasCome c i S event None fate came new) same
+    (comes S stands (counted n S (rec_in ready) stands up)
+    (at_new seat.machine n (λ (c : Catalog). λ (i : SiteId). IsReadyFor c i (tables_in n) S event ready) same is)))
+
+-- ---- where it is down, and isn't to come up
+
+finds_nothing : (event : Event) (keeps : Bool) (S : Standing) → MayFind event keeps → event ≢ Restart
+    → found_by keeps S ≡ None
+finds_nothing (Given input) keeps S finds stays = found_none keeps S finds
+finds_nothing Stop keeps S finds stays = found_none keeps S finds
+finds_nothing Restart keeps S finds stays = absurd (stays refl)
+
+breaks_none : (fate : Fate) → breaks fate None ≡ false
+breaks_none Fine = refl
+breaks_none Broken = refl
+
+pub declined : (seat : Seat) (event : Event) (keeps : Bool) (fate : Fate) (came : Came)
+    → CanTake (catalog_in seat.machine) (site_in seat.machine) seat event keeps → is_up seat.machine ≡ false
+    → event ≢ Restart → came ≡ only came.outcome
+    → ((S : Standing) → S.up ≡ false → came.outcome ≡ (rule (catalog_in seat.machine) (site_in seat.machine) S event).outcome)
+    → ((S : Standing) → HasStanding seat.machine S
+    → HasStanding seat.machine (stands_after (catalog_in seat.machine) (site_in seat.machine) S event came))
+    → HasCome (catalog_in seat.machine) (site_in seat.machine) (standing_of seat) event (found_by keeps (standing_of seat)) fate
+    came seat.machine
+declined seat event keeps fate came can fallen stays is ruled stands =
+    let S : Standing = standing_of seat in
+    let c : Catalog = catalog_in seat.machine in
+    let i : SiteId = site_in seat.machine in
+    let down : S.up ≡ false = up_is S seat.machine.site can.seat_is.stands.state ∙ fallen in
+    let alone = (rests c i S event down stays).alone in
+    subst (λ (f : Option Record). HasCome c i S event f fate came seat.machine)
+    (sym (finds_nothing event keeps S can.finds stays)) (record {
+      catalog_is = refl;
+      site = refl;
+      came_is = is ∙ (ap only (ruled S down)
+          ∙ (sym (stable_by fate event (expects (rule c i S event).outcome) (breaks_none fate))
+          ∙ ap (came_by fate event None) (sym alone)));
+      stands = stands S can.seat_is.stands;
+      spelled = none_spelled c.sites came (ap (λ (x : Came). x.sends) is);
+    })
 
 -- ---- where one is
 

@@ -1,5 +1,5 @@
-ghost use Rattle.std.specs.Prelude.{◌≡◌, ◌<◌, ◌++◌, ◌∷◌, ◌↔◌, [], ℕ, IsTrue, false, None, reverse, IfOk, OnErr, OnOk};
-ghost use Rattle.walter_machine.specs.Machines.{catalog_in, site_in, tables_in, is_up, HasRoom, HasStanding, IsCounted};
+ghost use Rattle.std.specs.Prelude.{◌≡◌, ◌<◌, ◌++◌, ◌∷◌, [], ℕ, false, None, reverse, IfOk, OnErr, OnOk};
+ghost use Rattle.walter_machine.specs.Machines.{catalog_in, site_in, tables_in, is_up, HasRoom, HasStanding, IsCountable, IsCounted};
 ghost use Rattle.walter_machine.specs.Posts.{stamp_behind};
 ghost use Rattle.walter_machine.specs.Readiness.{IsReadyFor, IsReadyAnyway, rec_in};
 ghost use Rattle.walter_rules.specs.declared.event.Event.TheVariants.{Restart};
@@ -68,12 +68,14 @@ impl Seat {
         ensures left { OnErr result (IsSeat (catalog_in self.old.machine) (site_in self.old.machine) self.new) }
         ensures entries { self.new.entries ≡ self.old.entries }
     {
-        if rises(&self.machine, event) {
-            return self.rise(alloc, keeps, fate);
+        if self.machine.is_up() {
+            let ready = self.machine.prepare(event)?;
+            return Ok(come(&mut self.machine, event, ready, fate));
         }
-        self.machine.make_room()?;
-        let ready = self.machine.prepare(event)?;
-        Ok(come(&mut self.machine, event, ready, fate))
+        match event {
+            Event::Restart => self.rise(alloc, keeps, fate),
+            _ => Ok(self.machine.decline(event)),
+        }
     }
 
     // What comes of the restart of a site that is down.
@@ -118,16 +120,6 @@ impl Seat {
     }
 }
 
-// Whether a site is to come up by this.
-fn rises(machine: &Machine, event: &Event) -> bool
-    ensures { IsTrue result ↔ (is_up machine.now ≡ false) × (event.now ≡ Restart) }
-{
-    match event {
-        Event::Restart => !machine.is_up(),
-        _ => false,
-    }
-}
-
 // The next epoch of a site that has one, whose records tell these tables.
 fn boot(alloc: Global, tables: Tables) -> Mem<Ready>
     requires { (K : Knowledge) × Stands tables K × (K.epoch < 4294967295) }
@@ -144,7 +136,8 @@ fn boot(alloc: Global, tables: Tables) -> Mem<Ready>
 
 // What comes of the event that this is ready for: its record is stable, or it meets a fault.
 fn come(machine: &mut Machine, event: &Event, ready: Ready, fate: Fate) -> Came
-    requires room { HasRoom machine.old }
+    requires room { is_up machine.old ≡ false → HasRoom machine.old }
+    requires countable { IsCountable machine.old ready }
     requires anyway { IsReadyAnyway (catalog_in machine.old) (site_in machine.old) (tables_in machine.old) event.now
         ready }
     ensures { (S : Standing) → HasStanding machine.old S → IsCounted machine.old S (rec_in ready)

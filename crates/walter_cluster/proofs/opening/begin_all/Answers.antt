@@ -107,7 +107,7 @@ loop-number-preserved g c =
     let Columns : List Receiving → Type 0 = λ is. HasBegun g.D.Disk t.catalog t.capacity t.areas (site_at n) disk (row_of (rows_in rows) n) is c.remove-lines.result.items cell in
     let Lists : List (Option LineValue) → Type 0 = λ ls. HasBegun g.D.Disk t.catalog t.capacity t.areas (site_at n) disk (row_of (rows_in rows) n) (column_of (columns_in columns) n) ls cell in
     let one = cell_begins g.D.Disk t n disk (row_of (rows_in rows) n) (column_of (columns_in columns) n) (list_of (lists_in lists) n) cell
-    (subst Lists (sym list) (subst Columns (sym column) (subst Rows (sym row) made.opens))) made.begins in
+    (subst Lists (sym list) (subst Columns (sym column) (subst Rows (sym row) made.opens))) made.begins made.room in
     record {
       disks = c.remove-disk.ensures.items ∙ left_next disks c.loop-number.disks.items n is.disks;
       rows = c.remove-outs.ensures.items ∙ left_next rows c.loop-number.rows.items n is.rows;

@@ -1,4 +1,4 @@
-use Rattle.std.proofs.Common.{◌<◌, map, Bool, true, false, Option, None, refl, sym, ◌∙◌, subst, ap, inr, arith}
+use Rattle.std.proofs.Common.{◌≡◌, ◌<◌, map, Bool, true, false, Option, None, refl, sym, ◌∙◌, subst, ap, inr, arith}
 use Rattle.std.proofs.lemmas.Option.{IfSome_then}
 use Rattle.std.specs.Prelude.{IfSome, is_some}
 use Rattle.walter_base.specs.declared.catalog.Catalog.{Catalog}
@@ -7,6 +7,7 @@ use Rattle.walter_base.specs.declared.names.SiteId.{SiteId}
 use Rattle.walter_checkpoint.specs.Books.{disk_of, shape_of}
 use Rattle.walter_disk.proofs.Moments.{joined}
 use Rattle.walter_disk.specs.Disks.{DiskState}
+use Rattle.walter_disk.specs.Images.{LeavesOnly}
 use Rattle.walter_engine.proofs.Crashes.{stays_next}
 use Rattle.walter_engine.proofs.Packed.{made, unmade, for_shape, calls_behind, calls_before_same, goes_on_same, spelled_packed}
 use Rattle.walter_engine.proofs.Raising.{rises, comes_of, comes_hindered, hindered_is, knows_here, stands_here, kept_here, rests_next, raises_hindered, raises_wanting, raises_unpacked, packed_next}
@@ -14,16 +15,16 @@ use Rattle.walter_engine.proofs.Room.{IsFor}
 use Rattle.walter_engine.proofs.Taking.{same_parts}
 use Rattle.walter_engine.proofs.Written.{faults_as, same_faults, same_layout, sized_as}
 use Rattle.walter_engine.proofs.restarting.raise.Goals as goal
-use Rattle.walter_engine.specs.Contents.{MayHaveNext}
+use Rattle.walter_engine.specs.Contents.{AreSpelled, MayHaveNext}
 use Rattle.walter_engine.specs.Effects.{IsRefusedOver}
 use Rattle.walter_engine.specs.Raises.{hindered_by}
 use Rattle.walter_engine.specs.Replays.{IsReadyOver}
 use Rattle.walter_engine.specs.Restarts.{ComesOf, left_over}
-use Rattle.walter_engine.specs.Stores.{layout_of}
+use Rattle.walter_engine.specs.Stores.{IsLeft, layout_of}
 use Rattle.walter_engine.specs.Writings.{IsOutcomeOf}
 use Rattle.walter_machine.proofs.Sizes.{sized_only}
-use Rattle.walter_machine.specs.Comings.{is_faulty}
-use Rattle.walter_machine.specs.Machines.{catalog_in, site_in, IsCounted}
+use Rattle.walter_machine.specs.Comings.{is_faulty, IsSized}
+use Rattle.walter_machine.specs.Machines.{catalog_in, site_in, tables_in, records_in, HasStanding, IsCounted}
 use Rattle.walter_machine.specs.Readiness.{IsReadyFor, IsReadyAnyway}
 use Rattle.walter_rules.specs.declared.entry.Came.{Came}
 use Rattle.walter_rules.specs.declared.event.Event.TheVariants.{Restart}
@@ -31,8 +32,8 @@ use Rattle.walter_rules.specs.declared.outcome.Outcome.{Outcome}
 use Rattle.walter_rules.specs.declared.outcome.Outcome.TheVariants.{Failed, Memory}
 use Rattle.walter_rules.specs.Knowledge.{Knowledge}
 use Rattle.walter_rules.specs.Layouts.{Layout}
-use Rattle.walter_rules.specs.Standing.{up_after}
-use Rattle.walter_rules.specs.Trails.{only, TakesMemory}
+use Rattle.walter_rules.specs.Standing.{stands_after, up_after}
+use Rattle.walter_rules.specs.Trails.{Comes, only, TakesMemory}
 use Rattle.walter_tables.specs.declared.tables.Tables.{Tables}
 
 pub ready_over-requires-clause-here : goal.ready_over-requires-clause-here
@@ -47,35 +48,69 @@ pub ready_over-requires-clause-fewer : goal.ready_over-requires-clause-fewer
 ready_over-requires-clause-fewer g c =
     omega (arith, ap (λ (x : Catalog). x.sites) c.catalog.ensures, ap (λ (x : Catalog). x.tolerated) c.catalog.ensures, c.args.machine.now.fewer)
 
+-- there is no room for the site
+pub returns-in_default : goal.returns-in_default
+returns-in_default g c =
+    let room = c.make_room.ensures in
+    let m = c.args.machine.now in
+    let m1 = c.make_room.new.self in
+    let bodies = map (λ body. body.items) c.args.bodies.now in
+    let came = c.want.ensures.came in
+    record {
+      raises = λ layout S lies standing count.
+          raises_hindered {g = g.D.Disk} (catalog_in m) layout (site_in m) S c.args.book.now bodies lies g.met.D.Disk.size_is m1 room.same.catalog c.want.result
+          (same_parts (λ x k. HasStanding m1 (stands_after x k S Restart c.want.result)) (catalog_in m1) (catalog_in m) (site_in m1) (site_in m) (sym room.same.catalog) (sym room.same.id)
+          (c.want.ensures.stands S (room.stands S standing) (subst (λ up. TakesMemory up Restart) (sym lies.down) tt))) None tt came;
+      any_moment = λ layout S lies.
+          rests_next {g = g.D.Disk} (catalog_in m) layout (site_in m) S c.args.book.now bodies lies g.met.D.Disk.only_now;
+      refused = tt;
+      over = comes_hindered (catalog_in m) (site_in m) _ bodies _ _ None tt (ap (λ (x : Came). x.outcome) came);
+      up = ap is_some (room.tables ∙ c.requires.down) ∙ sym (ap (λ (x : Came). up_after Restart x.outcome false) came);
+      sized = sized_as _ c.want.result _ came (sized_only _ Memory tt);
+      none_sent = ap (λ (x : Came). x.sends) came;
+      none_dropped = ap (λ (x : Came). x.dropped) came;
+      none_kept = ap (λ (x : Came). x.kept) came;
+      faults = faults_as c.want.result false _ _ (ap (λ (x : Came). is_faulty x.outcome) came) refl;
+      arms = refl;
+      tells = refl;
+      device = record { all = rw (ap (λ (x : Came). x.wrote) came) tt; at_most = omega arith };
+      same = record { catalog = room.same.catalog; id = room.same.id };
+    }
+
 pub spell_any-requires : goal.spell_any-requires
 spell_any-requires g c =
     let over = same_parts (λ x k. IsReadyOver x k (map (λ body. body.items) c.args.bodies.now) c.in-Ok.ready) c.catalog.result.now (catalog_in c.args.machine.now) c.id.result (site_in c.args.machine.now) (sym c.catalog.ensures) (sym c.id.ensures) c.in-Ok.ensures.ready in
     over.anyway.ready_for.sized.wrote
 
 -- memory ran out
-pub returns-in_default : goal.returns-in_default
-returns-in_default g c =
+pub returns-in_default-spell_any : goal.returns-in_default-spell_any
+returns-in_default-spell_any g c =
+    let room = c.make_room.ensures in
+    let m = c.args.machine.now in
+    let m1 = c.make_room.new.self in
+    let wanting = c.want-in_default-spell_any in
     let same = c.spell_any.ensures.same in
-    let came = c.want.ensures.came in
+    let came = wanting.ensures.came in
     record {
       raises = λ layout S lies standing count.
-          raises_wanting {g = g.D.Disk} (catalog_in c.args.machine.now) layout (site_in c.args.machine.now) S c.args.book.now (map (λ body. body.items) c.args.bodies.now) lies g.met.D.Disk.size_is c.args.machine.now refl c.want.result
-          (c.want.ensures.stands S standing (subst (λ up. TakesMemory up Restart) (sym lies.down) tt)) c.spell_any.new.book same came;
+          raises_wanting {g = g.D.Disk} (catalog_in m) layout (site_in m) S c.args.book.now (map (λ body. body.items) c.args.bodies.now) lies g.met.D.Disk.size_is m1 room.same.catalog wanting.result
+          (same_parts (λ x k. HasStanding m1 (stands_after x k S Restart wanting.result)) (catalog_in m1) (catalog_in m) (site_in m1) (site_in m) (sym room.same.catalog) (sym room.same.id)
+          (wanting.ensures.stands S (room.stands S standing) (subst (λ up. TakesMemory up Restart) (sym lies.down) tt))) c.spell_any.new.book same came;
       any_moment = λ layout S lies.
-          stays_next {g = g.D.Disk} (catalog_in c.args.machine.now) layout (site_in c.args.machine.now) S Restart c.args.book.now lies.laid
-          (stands_here {g = g.D.Disk} (catalog_in c.args.machine.now) layout (site_in c.args.machine.now) S c.args.book.now (map (λ body. body.items) c.args.bodies.now) lies) c.spell_any.new.book same;
+          stays_next {g = g.D.Disk} (catalog_in m) layout (site_in m) S Restart c.args.book.now lies.laid
+          (stands_here {g = g.D.Disk} (catalog_in m) layout (site_in m) S c.args.book.now (map (λ body. body.items) c.args.bodies.now) lies) c.spell_any.new.book same;
       refused = tt;
-      over = subst (λ (o : Outcome). ComesOf (catalog_in c.args.machine.now) (site_in c.args.machine.now) (left_over (layout_of c.args.book.now) (map (λ body. body.items) c.args.bodies.now)) (map (λ body. body.items) c.args.bodies.now) c.want.result.wrote None o) (sym (ap (λ (x : Came). x.outcome) came)) refl;
-      up = ap is_some c.requires.down ∙ sym (ap (λ (x : Came). up_after Restart x.outcome false) came);
-      sized = sized_as _ c.want.result _ came (sized_only _ Memory tt);
+      over = subst (λ (o : Outcome). ComesOf (catalog_in m) (site_in m) (left_over (layout_of c.args.book.now) (map (λ body. body.items) c.args.bodies.now)) (map (λ body. body.items) c.args.bodies.now) wanting.result.wrote None o) (sym (ap (λ (x : Came). x.outcome) came)) refl;
+      up = ap is_some (room.tables ∙ c.requires.down) ∙ sym (ap (λ (x : Came). up_after Restart x.outcome false) came);
+      sized = sized_as _ wanting.result _ came (sized_only _ Memory tt);
       none_sent = ap (λ (x : Came). x.sends) came;
       none_dropped = ap (λ (x : Came). x.dropped) came;
       none_kept = ap (λ (x : Came). x.kept) came;
-      faults = faults_as c.want.result false _ _ (ap (λ (x : Came). is_faulty x.outcome) came) (ap (λ (d : DiskState). d.faults) same.disk);
+      faults = faults_as wanting.result false _ _ (ap (λ (x : Came). is_faulty x.outcome) came) (ap (λ (d : DiskState). d.faults) same.disk);
       arms = ap (λ (d : DiskState). d.arms) same.disk;
       tells = ap (λ (d : DiskState). is_some d.reads) same.disk;
       device = record { all = rw (ap (λ (x : Came). x.wrote) came) tt; at_most = omega (arith, same.book.device) };
-      same = record { catalog = refl; id = refl };
+      same = record { catalog = room.same.catalog; id = room.same.id };
     }
 
 pub pack_any-requires-clause-pack_room : goal.pack_any-requires-clause-pack_room
@@ -91,21 +126,25 @@ pack_any-requires-clause-goes_on g c = goes_on_same _ _ c.spell_any.ensures.same
 pub returns-then-is_err : goal.returns-then-is_err
 returns-then-is_err g c =
     let bodies = map (λ body. body.items) c.args.bodies.now in
+    let room = c.make_room.ensures in
+    let m = c.args.machine.now in
+    let m1 = c.make_room.new.self in
     let same = c.spell_any.ensures.same in
     let came = c.rest-then-is_err.ensures.came in
     let failed = unmade c.pack_any.result (sym c.is_err.ensures.value ∙ c.if-is_err.true) c.pack_any.ensures.failed in
     let calls = calls_before_same {g = g.D.Disk} c.args.book.now c.spell_any.new.book same bodies in
     record {
       raises = λ layout S lies standing count.
-          raises_unpacked {g = g.D.Disk} (catalog_in c.args.machine.now) layout (site_in c.args.machine.now) S c.args.book.now bodies lies g.met.D.Disk.size_is c.args.machine.now refl c.rest-then-is_err.result
-          (c.rest-then-is_err.ensures.stands S standing lies.down) c.spell_any.new.book same c.pack_any.new.book g.met.D.Disk.counts_now failed
-          (c.pack_any.ensures.any_moment (same.book.stands bodies lies.stands)) c.requires.down came;
+          raises_unpacked {g = g.D.Disk} (catalog_in m) layout (site_in m) S c.args.book.now bodies lies g.met.D.Disk.size_is m1 room.same.catalog c.rest-then-is_err.result
+          (same_parts (λ x k. HasStanding m1 (stands_after x k S Restart c.rest-then-is_err.result)) (catalog_in m1) (catalog_in m) (site_in m1) (site_in m) (sym room.same.catalog) (sym room.same.id)
+          (c.rest-then-is_err.ensures.stands S (room.stands S standing) lies.down)) c.spell_any.new.book same c.pack_any.new.book g.met.D.Disk.counts_now failed
+          (c.pack_any.ensures.any_moment (same.book.stands bodies lies.stands)) (room.tables ∙ c.requires.down) came;
       any_moment = λ layout S lies.
-          packed_next {g = g.D.Disk} (catalog_in c.args.machine.now) layout (site_in c.args.machine.now) S c.args.book.now bodies lies c.spell_any.new.book same (disk_of c.pack_any.new.book)
+          packed_next {g = g.D.Disk} (catalog_in m) layout (site_in m) S c.args.book.now bodies lies c.spell_any.new.book same (disk_of c.pack_any.new.book)
           (c.pack_any.ensures.any_moment (same.book.stands bodies lies.stands));
       refused = tt;
-      over = subst (λ (o : Outcome). ComesOf (catalog_in c.args.machine.now) (site_in c.args.machine.now) (left_over (layout_of c.args.book.now) bodies) bodies c.rest-then-is_err.result.wrote None o) (sym (ap (λ (x : Came). x.outcome) came)) refl;
-      up = ap is_some c.requires.down ∙ sym (ap (λ (x : Came). up_after Restart x.outcome false) came);
+      over = subst (λ (o : Outcome). ComesOf (catalog_in m) (site_in m) (left_over (layout_of c.args.book.now) bodies) bodies c.rest-then-is_err.result.wrote None o) (sym (ap (λ (x : Came). x.outcome) came)) refl;
+      up = ap is_some (room.tables ∙ c.requires.down) ∙ sym (ap (λ (x : Came). up_after Restart x.outcome false) came);
       sized = sized_as _ c.rest-then-is_err.result _ came (sized_only _ Failed tt);
       none_sent = ap (λ (x : Came). x.sends) came;
       none_dropped = ap (λ (x : Came). x.dropped) came;
@@ -115,13 +154,23 @@ returns-then-is_err g c =
       arms = c.pack_any.ensures.arms ∙ ap (λ (d : DiskState). d.arms) same.disk;
       tells = c.pack_any.ensures.tells ∙ ap (λ (d : DiskState). is_some d.reads) same.disk;
       device = record { all = rw (ap (λ (x : Came). x.wrote) came) tt; at_most = omega (arith, same.book.device, c.pack_any.ensures.at_most, calls) };
-      same = record { catalog = refl; id = refl };
+      same = record { catalog = room.same.catalog; id = room.same.id };
     }
 
 pub put-came-requires-clause-anyway : goal.put-came-requires-clause-anyway
 put-came-requires-clause-anyway g c =
     let over = same_parts (λ x k. IsReadyOver x k (map (λ body. body.items) c.args.bodies.now) c.in-Ok.ready) c.catalog.result.now (catalog_in c.args.machine.now) c.id.result (site_in c.args.machine.now) (sym c.catalog.ensures) (sym c.id.ensures) c.in-Ok.ensures.ready in
-    subst (λ (o : Option Tables). IsReadyAnyway (catalog_in c.args.machine.now) (site_in c.args.machine.now) o Restart c.in-Ok.ready) (sym c.requires.down) over.anyway
+    let m = c.args.machine.now in
+    let m1 = c.make_room.new.self in
+    let room = c.make_room.ensures in
+    same_parts (λ x k. IsReadyAnyway x k (tables_in m1) Restart c.in-Ok.ready) (catalog_in m) (catalog_in m1) (site_in m) (site_in m1) room.same.catalog room.same.id
+    (subst (λ (o : Option Tables). IsReadyAnyway (catalog_in m) (site_in m) o Restart c.in-Ok.ready) (sym (room.tables ∙ c.requires.down)) over.anyway)
+
+pub put-came-requires-clause-countable : goal.put-came-requires-clause-countable
+put-came-requires-clause-countable g c some =
+    let m1 = c.make_room.new.self in
+    let same : records_in m1 ≡ records_in c.args.machine.now = c.make_room.ensures.records in
+    omega (arith, c.requires.countable)
 
 pub put-came-requires-clause-spelled : goal.put-came-requires-clause-spelled
 put-came-requires-clause-spelled g c =
@@ -132,8 +181,12 @@ put-came-requires-clause-spelled g c =
 pub returns : goal.returns
 returns g c =
     let bodies = map (λ body. body.items) c.args.bodies.now in
-    let catalog = catalog_in c.args.machine.now in
-    let i = site_in c.args.machine.now in
+    let m = c.args.machine.now in
+    let m1 = c.make_room.new.self in
+    let room = c.make_room.ensures in
+    let catalog = catalog_in m in
+    let i = site_in m in
+    let down = room.tables ∙ c.requires.down in
     let ready = c.in-Ok.ready in
     let same = c.spell_any.ensures.same in
     let packed = made c.pack_any.result (sym c.is_err.ensures.value ∙ c.if-is_err.false) c.pack_any.ensures.packed in
@@ -144,33 +197,40 @@ returns g c =
     record {
       raises = λ layout S lies standing count.
           let knows = knows_here {g = g.D.Disk} catalog layout i S c.args.book.now bodies lies over.records over.tell in
-          let ready_for = subst (λ (o : Option Tables). IsReadyFor catalog i o S Restart ready) (sym c.requires.down) (over.ready_for S lies.down knows) in
-          let counted = subst (λ (o : Option Record). IsCounted c.args.machine.now S o) (sym over.boots) count in
+          let ready_for = same_parts (λ x k. IsReadyFor x k (tables_in m1) S Restart ready) catalog (catalog_in m1) i (site_in m1) room.same.catalog room.same.id
+          (subst (λ (o : Option Tables). IsReadyFor catalog i o S Restart ready) (sym down) (over.ready_for S lies.down knows)) in
+          let counted = subst (λ (o : Option Record). IsCounted m1 S o) (sym over.boots) (room.records ∙ count) in
           let kept = kept_here {g = g.D.Disk} catalog layout i S c.args.book.now bodies lies (shape_of c.args.book.now).sites
           (subst (IsFor (shape_of c.args.book.now).sites) lies.laid (for_shape (shape_of c.args.book.now) c.args.book.now.live))
           c.requires.sites c.spell_any.new.book c.pack_any.new.book same packed in
+          let spelled = subst (λ (x : Catalog). AreSpelled x.sites S) (sym room.same.catalog) lies.spelled in
+          let stands = room.stands S standing in
           record {
-            comes = inr (c.put-came.ensures.comes layout S standing counted ready_for lies.spelled kept);
-            leaves = c.put-came.ensures.leaves layout S standing counted ready_for lies.spelled kept;
+            comes = inr (same_parts (λ x k. Comes x layout k S Restart c.put-came.result.0) (catalog_in m1) catalog (site_in m1) i (sym room.same.catalog) (sym room.same.id)
+                (c.put-came.ensures.comes layout S stands counted ready_for spelled kept));
+            leaves = same_parts (λ x k. IsLeft {g = g.D.Disk} layout c.put-came.new.machine (stands_after x k S Restart c.put-came.result.0) c.put-came.new.book) (catalog_in m1) catalog (site_in m1) i (sym room.same.catalog) (sym room.same.id)
+                (c.put-came.ensures.leaves layout S stands counted ready_for spelled kept);
             last = tt;
             takes_none = λ last. absurd (over.left (ap (λ (K : Knowledge). K.epoch) knows ∙ last));
           };
       any_moment = λ layout S lies.
           let knows = knows_here {g = g.D.Disk} catalog layout i S c.args.book.now bodies lies over.records over.tell in
-          let ready_for = subst (λ (o : Option Tables). IsReadyFor catalog i o S Restart ready) (sym c.requires.down) (over.ready_for S lies.down knows) in
+          let ready_for = same_parts (λ x k. IsReadyFor x k (tables_in m1) S Restart ready) catalog (catalog_in m1) i (site_in m1) room.same.catalog room.same.id
+          (subst (λ (o : Option Tables). IsReadyFor catalog i o S Restart ready) (sym down) (over.ready_for S lies.down knows)) in
           let kept = kept_here {g = g.D.Disk} catalog layout i S c.args.book.now bodies lies (shape_of c.args.book.now).sites
           (subst (IsFor (shape_of c.args.book.now).sites) lies.laid (for_shape (shape_of c.args.book.now) c.args.book.now.live))
           c.requires.sites c.spell_any.new.book c.pack_any.new.book same packed in
           joined g.D.Disk.moment g.D.Disk.left_since (disk_of c.args.book.now) (disk_of c.pack_any.new.book) (disk_of c.put-came.new.book) (MayHaveNext catalog layout i S Restart None)
           (packed_next {g = g.D.Disk} catalog layout i S c.args.book.now bodies lies c.spell_any.new.book same (disk_of c.pack_any.new.book)
           (c.pack_any.ensures.any_moment (same.book.stands bodies lies.stands)))
-          (c.put-came.ensures.any_moment layout S ready_for kept);
+          (same_parts (λ x k. LeavesOnly g.D.Disk.moment g.D.Disk.left_since (disk_of c.pack_any.new.book) (disk_of c.put-came.new.book) (MayHaveNext x layout k S Restart None)) (catalog_in m1) catalog (site_in m1) i (sym room.same.catalog) (sym room.same.id)
+          (c.put-came.ensures.any_moment layout S ready_for kept));
       refused = tt;
       over = comes_of catalog i _ bodies ready over _ _
           (subst (λ n. IsOutcomeOf Restart ready n c.put-came.result.0.outcome) (packed.left ∙ ap (λ (l : Layout). left_over l bodies) laid) c.put-came.ensures.outcome)
           c.put-came.ensures.wrote;
-      up = c.put-came.ensures.up ∙ ap (λ (up : Bool). up_after Restart c.put-came.result.0.outcome up) (ap is_some c.requires.down);
-      sized = c.put-came.ensures.sized;
+      up = c.put-came.ensures.up ∙ ap (λ (up : Bool). up_after Restart c.put-came.result.0.outcome up) (ap is_some down);
+      sized = subst (λ (x : Catalog). IsSized x.sites c.put-came.result.0) room.same.catalog c.put-came.ensures.sized;
       none_sent = c.put-came.ensures.sent (rises _ _ ready _ over.anyway over.boots).1;
       none_dropped = c.put-came.ensures.none_dropped;
       none_kept = c.put-came.ensures.none_kept;
@@ -178,7 +238,7 @@ returns g c =
       arms = c.put-came.ensures.arms ∙ (c.pack_any.ensures.arms ∙ ap (λ (d : DiskState). d.arms) same.disk);
       tells = c.put-came.ensures.tells ∙ (c.pack_any.ensures.tells ∙ ap (λ (d : DiskState). is_some d.reads) same.disk);
       device = calls_behind c.put-came.result.0 _ _ _ _ (omega (arith, device, same.book.device, calls)) c.put-came.ensures.device;
-      same = c.put-came.ensures.same;
+      same = record { catalog = c.put-came.ensures.same.catalog ∙ room.same.catalog; id = c.put-came.ensures.same.id ∙ room.same.id };
     }
 
 pub rest-requires : goal.rest-requires

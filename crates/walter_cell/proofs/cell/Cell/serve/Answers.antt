@@ -1,5 +1,6 @@
 use Rattle.std.proofs.Common.{◌≡◌, ◌+◌, ◌-◌, ◌++◌, ◌∷◌, [], ℕ, List, Some, None, length, ap, sym, ◌∙◌, subst, refl, arith, slice_get, slice_set, true, Bor, inl}
 use Rattle.std.specs.Prelude.{option_map}
+use Rattle.std.proofs.lemmas.Option.{slice_get-get_or}
 use Rattle.walter_conn.specs.Calls.{IsEnded, IsBroken}
 use Rattle.walter_rules.specs.declared.entry.Entry.{Entry}
 use Rattle.walter_rules.specs.declared.event.Event.{Event}
@@ -11,7 +12,7 @@ use Rattle.walter_cell.specs.Cells.{CellValue, IsCell, Proceeds, TurnsTo}
 use Rattle.walter_cell.specs.declared.answers.Serve.{Serve}
 use Rattle.walter_cell.specs.declared.answers.Serve.TheVariants as serve
 use Rattle.walter_cell.specs.Entries.{IsSpent, HasPlace}
-use Rattle.walter_cell.specs.Lines.{LineValue, is_here, IsLineAt, CanFail, HasFault, HasFaultAt}
+use Rattle.walter_cell.specs.Lines.{LineValue, AwaitsWrite, NextIsWrite, is_here, IsLineAt, CanFail, HasFault, HasFaultAt}
 use Rattle.walter_cell.specs.Nodes.{NodeValue, Takes, clock_in, entry_by}
 use Rattle.walter_cell.specs.Turns.{BringsNothing, BringsCall, ServesTo, ServesAt, AreSameBut}
 use Rattle.walter_cell.proofs.Lines.{none_there, on_err_so}
@@ -65,7 +66,7 @@ module _ (g : Over) (c : After-next_call g) where
   Serves answer = ServesTo c.args.number (clock_in old.node) line read old.node.trail idle_cell.node.trail answer
 
   idle : read.sent ≡ line.sent → BringsNothing line read old.node.trail idle_cell.node.trail
-  idle sent = record { trail = ap (λ (n : NodeValue g.row.D.Denot). n.trail) c.in_ok-make_ready.ensures.same; sent = sent }
+  idle sent = record { trail = ap (λ (n : NodeValue g.row.D.Denot). n.trail) c.in_ok-make_ready.ensures.same.same; sent = sent }
 
   place : HasPlace (clock_in old.node + 1) old.node.trail
   place = place_found (clock_in old.node) c.in-Some.stamp old.node.trail c.in-Some.ensures.some
@@ -125,6 +126,18 @@ returns-in_err-next_call-clause-unserved g c =
     let d = (goal.at.returns-in_err-next_call-clause-unserved g c).After-next_call in
     on_err_so c.from_residual-in_err-next_call.result _
     (unserved g d c.in_err-next_call.ensures.same c.in_err-next_call.ensures.sent ∙ ap (λ (v : CellValue g.row.D.Denot). v.lines) c.self.view_is)
+
+pub returns-in_err-next_call-clause-roomy : goal.returns-in_err-next_call-clause-roomy
+returns-in_err-next_call-clause-roomy g c =
+    let d = (goal.at.returns-in_err-next_call-clause-roomy g c).After-next_call in
+    let lines = c.self.inside.lines.items in
+    let here : is_here lines c.args.number ≡ true = rw (← c.self.view_is) at c.requires in
+    let was : slice_get lines c.args.number ≡ Some (Some (line g d)) =
+    slice_get-get_or lines c.args.number c.index_mut.result.now (here_within lines c.args.number here)
+    ∙ ap (λ x. Some x) (sym c.index_mut.ensures.value ∙ c.in-Some-index_mut.is) in
+    on_err_so c.from_residual-in_err-next_call.result _
+    (λ room. subst (λ (v : CellValue g.row.D.Denot). NextIsWrite v.lines c.args.number) c.self.view_is
+    (line g d, was, subst AwaitsWrite c.in_err-next_call.ensures.same c.in_err-next_call.ensures.write))
 
 -- ---- no call follows, or the connection is broken
 

@@ -2,7 +2,7 @@ use Rattle.std.proofs.Common.{◌++◌, ◌∷◌, ◌-◌, ◌∙◌, [], ap, s
 use Rattle.std.specs.Prelude.{option_map}
 use Rattle.walter_engine.specs.Engines.{disk_in}
 use Rattle.walter_engine.specs.declared.engine.Engine.{Engine}
-use Rattle.walter_cell.specs.Nodes.{NodeParts, NodeValue, IsSameButDisk, IsWhole, room_of, seen}
+use Rattle.walter_cell.specs.Nodes.{NodeParts, NodeValue, IsSameButDisk, IsWhole, seen}
 use Rattle.walter_cell.proofs.Wholes.{armed_or_not, seen_over, whole_over}
 use Rattle.walter_cell.proofs.node.Node.arm.Goals as goal
 
@@ -31,8 +31,6 @@ returns-clause-same g c =
       outs = inside.outs.items;
     } in
     let room = vec_capacity inside.entries - vec_len inside.entries in
-    let before = room_of room inside.engine.value in
-    let after = room_of room c.arm.new.self in
-    subst (λ (v : NodeValue g.row.D.Denot). IsSameButDisk v (seen after (record lent { engine = c.arm.new.self })))
-    (ap (λ (e : Engine g.row.D.Denot g.D.Disk). seen before (record lent { engine = e })) c.deref_mut.ensures.value ∙ c.self.view_is)
-    (seen_over lent c.arm.new.self before after c.arm.ensures.engine)
+    subst (λ (v : NodeValue g.row.D.Denot). IsSameButDisk v (seen room (record lent { engine = c.arm.new.self })))
+    (ap (λ (e : Engine g.row.D.Denot g.D.Disk). seen room (record lent { engine = e })) c.deref_mut.ensures.value ∙ c.self.view_is)
+    (seen_over lent c.arm.new.self room c.arm.ensures.engine)

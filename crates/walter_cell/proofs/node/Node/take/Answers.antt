@@ -1,4 +1,4 @@
-use Rattle.std.proofs.Common.{◌≡◌, ◌-◌, vec_capacity, vec_len, ◌++◌, List, length, take, drop, reverse, refl, ap, sym, ◌∙◌, subst}
+use Rattle.std.proofs.Common.{◌≡◌, ◌≤◌, ◌+◌, ◌-◌, ℕ, vec_capacity, vec_len, ◌++◌, List, length, take, drop, reverse, refl, ap, sym, ◌∙◌, subst, arith}
 use Rattle.std.proofs.lemmas.List.{length-map}
 use Rattle.walter_engine.specs.Effects.{HasCome}
 use Rattle.walter_engine.specs.Engines.{catalog_in, site_in, layout_in, Stands}
@@ -11,7 +11,7 @@ use Rattle.walter_rules.specs.Sending.{Send}
 use Rattle.walter_rules.specs.Standing.{Standing, settled}
 use Rattle.walter_rules.specs.Trails.{Comes, standing, IsNextStamp}
 use Rattle.walter_rules.proofs.Staying.{later_next}
-use Rattle.walter_cell.specs.Nodes.{NodeParts, NodeValue, Room, IsWhole, Takes, room_of, seen}
+use Rattle.walter_cell.specs.Nodes.{NodeParts, NodeValue, IsWhole, Takes, seen}
 use Rattle.walter_cell.proofs.Ages.{comes_young}
 use Rattle.walter_cell.proofs.Nodes.{all_back, node_more, known_more, drops_more}
 use Rattle.walter_cell.proofs.Wholes.{whole_of, told_before, takes_of}
@@ -84,17 +84,18 @@ module _ (g : Over) (c : goal.After-push_reserved g) where
       c.put_out-sends.result.1 c.push_reserved.ensures.items c.put_out-sends.ensures.out whole.is
       c.take-came.ensures.none_dropped come.found (comes known.stands) come.stands next known.right)
 
-  pub takes : (before after : Room) → Takes g.D.Disk c.args.stamp c.args.event (seen before old) (seen after new)
-  takes before after =
+  pub takes : (before after : ℕ) → length old.trail + before ≤ length new.trail + after
+      → Takes g.D.Disk c.args.stamp c.args.event (seen before old) (seen after new)
+  takes before after places =
       takes_of old new before after c.args.stamp c.args.event (with_sends sends c.put_out-sends.result.1 came)
-      c.push_reserved.ensures.items c.take-came.ensures.sized.outcome c.take-came.ensures.engine c.take-came.ensures.tells
+      c.push_reserved.ensures.items places c.take-came.ensures.sized.outcome c.take-came.ensures.engine c.take-came.ensures.tells
       c.take-came.ensures.arms put.rings put.same_mets
       (λ told. drops_more (catalog_in old.engine) (layout_in old.engine) (site_in old.engine) old new c.args.stamp c.args.event came sends
       c.put_out-sends.result.1 c.push_reserved.ensures.items c.put_out-sends.ensures.out whole.is
       c.take-came.ensures.none_dropped (comes (whole.known told).stands))
 
   -- what contracts see of the site as its parts were lent
-  seen_before : (room : Room) → seen room old ≡ seen room (parts c.self.inside.engine.value c.self.inside.outs.items)
+  seen_before : (room : ℕ) → seen room old ≡ seen room (parts c.self.inside.engine.value c.self.inside.outs.items)
   seen_before room =
       ap (λ (e : Engine D g.D.Disk). seen room (parts e old.outs)) c.deref_mut.ensures.value
       ∙ ap (λ (os : List Sending). seen room (parts c.self.inside.engine.value os)) c.deref_mut-2.ensures.value
@@ -111,8 +112,11 @@ invariant_of-self g c = subst (λ (n : NodeParts g.row.D.Denot g.D.Disk). IsWhol
 pub returns : goal.returns
 returns g c =
     let inside = c.self.inside in
-    let before = room_of (vec_capacity inside.entries - vec_len inside.entries) inside.engine.value in
-    let after = room_of (vec_capacity c.push_reserved.new.self - vec_len c.push_reserved.new.self) c.take-came.new.self in
+    let before = vec_capacity inside.entries - vec_len inside.entries in
+    let after = vec_capacity c.push_reserved.new.self - vec_len c.push_reserved.new.self in
+    let ready = (rw (← c.self.view_is) at c.requires.ready) in
+    let places : length inside.entries.items + before ≤ length c.push_reserved.new.self.items + after =
+    omega (arith, inside.entries.ok.0, c.push_reserved.new.self.ok.0, c.push_reserved.ensures.len, c.push_reserved.ensures.capacity, ready) in
     subst (λ (n : NodeParts g.row.D.Denot g.D.Disk). Takes g.D.Disk c.args.stamp c.args.event c.args.self.now (seen after n)) (back_is g c)
     (subst (λ (v : NodeValue g.row.D.Denot). Takes g.D.Disk c.args.stamp c.args.event v (seen after (new g c)))
-    (seen_before g c before ∙ c.self.view_is) (takes g c before after))
+    (seen_before g c before ∙ c.self.view_is) (takes g c before after places))

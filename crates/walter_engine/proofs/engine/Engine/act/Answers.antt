@@ -38,13 +38,13 @@ returns-in_default-prepare g c =
           record {
             comes = λ S stands.
                 let up = state_up S (tables_in c.args.self.now.machine) stands.machine.state in
-                let takes = subst (λ (b : Bool). TakesMemory b c.args.event.now) (sym up) free in
+                let takes = subst (λ (b : Bool). TakesMemory b c.args.event.now) (sym (up ∙ c.requires.up)) free in
                 let standing = c.prepare.ensures.stands S stands.machine in
                 let stored = subst (λ o. IsStored {g = g.D.Disk} layout S o) was stands.store in
                 let spelled = subst (λ (x : Catalog). AreSpelled x.sites S) (sym c.prepare.ensures.same.catalog) stands.spelled in
                 let left = leaves_kept {g = g.D.Disk} g.met.D.Disk.size_is (catalog_in c.prepare.new.self) layout (site_in c.prepare.new.self) S c.args.event.now spelled c.prepare.new.self refl c.want.result
                 (c.want.ensures.stands S standing takes) c.in-Some-Open.book stored (ups_same (catalog_in c.prepare.new.self) (site_in c.prepare.new.self) S c.args.event.now c.want.result (want c.args.event.now) (ap (λ (x : Came). x.outcome) came) ((want_is c.args.event.now).3 S.up)) (ap (λ (x : Came). x.wrote) came) (ap (λ (x : Came). x.flight) came) in
-                let store_is = ap (λ (b : Bool). Some (if b then Open c.in-Some-Open.book else Closed (disk_of c.in-Some-Open.book))) (sym (c.prepare.ensures.up ∙ c.requires.up)) in
+                let store_is = ap (λ (b : Bool). Some (if b then Open c.in-Some-Open.book else Closed (disk_of c.in-Some-Open.book))) (sym c.prepare.ensures.up) in
                 let comes = same_parts (λ x k. Comes x layout k S c.args.event.now c.want.result) (catalog_in c.prepare.new.self) (catalog_in c.args.self.now.machine) (site_in c.prepare.new.self) (site_in c.args.self.now.machine) (sym c.prepare.ensures.same.catalog) (sym c.prepare.ensures.same.id)
                 (c.want.ensures.comes layout S takes) in
                 let left_here = same_parts (λ x k. IsLeft {g = g.D.Disk} layout c.prepare.new.self (stands_after x k S c.args.event.now c.want.result) c.in-Some-Open.book) (catalog_in c.prepare.new.self) (catalog_in c.args.self.now.machine) (site_in c.prepare.new.self) (site_in c.args.self.now.machine) (sym c.prepare.ensures.same.catalog) (sym c.prepare.ensures.same.id) left in
@@ -72,6 +72,9 @@ returns-in_default-prepare g c =
           (calls_as c.want.result None None _ _ (ap (λ (x : Came). x.wrote) came) (ap (λ (x : Came). x.flight) came) refl);
       stops = λ stop. sym before;
     }
+
+pub write-came-requires-clause-room : goal.write-came-requires-clause-room
+write-came-requires-clause-room g c down = absurd (let e = sym c.prepare.ensures.up ∙ down in cc)
 
 pub returns : goal.returns
 returns g c =

@@ -1,12 +1,12 @@
-use Rattle.std.proofs.Common.{◌∙◌, Option, sym, subst, refl}
-use Rattle.std.specs.Prelude.{IfSome}
+use Rattle.std.proofs.Common.{◌∙◌, Option, ap, sym, subst, refl}
+use Rattle.std.specs.Prelude.{IfSome, is_some}
 use Rattle.walter_base.specs.declared.message.Record.{Record}
 use Rattle.walter_base.specs.Sizes.{CanBeRecorded}
 use Rattle.walter_machine.specs.States.{IsOf}
 use Rattle.walter_machine.specs.Steps.{record_of}
 use Rattle.walter_tables.specs.declared.tables.Tables.{Tables}
 use Rattle.walter_machine.specs.Comings.{IsFall}
-use Rattle.walter_machine.proofs.Standing.{fail_comes, failed_standing_by, fault_made, next_recorded}
+use Rattle.walter_machine.proofs.Standing.{fail_comes, failed_standing_by, fault_made, lost_none, next_recorded, room_of}
 use Rattle.walter_machine.proofs.Standings.{failure_falls}
 use Rattle.walter_rules.specs.declared.outcome.Outcome.{Outcome}
 use Rattle.walter_machine.proofs.machine.Machine.fail.Goals as goal
@@ -15,6 +15,14 @@ pub lose-requires-clause-falls : goal.lose-requires-clause-falls
 lose-requires-clause-falls c =
     subst (λ (o : Outcome). IsFall c.args.event.now o) (sym c.failure-outcome.ensures)
     (failure_falls c.args.event.now c.in-Some.failed.now)
+
+pub place-requires : goal.place-requires
+place-requires c = (room_of c.args.self.now c.requires.room).enough
+
+pub lose-requires-clause-unlost : goal.lose-requires-clause-unlost
+lose-requires-clause-unlost c =
+    let m = c.args.self.now in
+    lost_none m.lost (room_of m c.requires.room).unlost
 
 pub invariant_of-self-clause-of : goal.invariant_of-self-clause-of
 invariant_of-self-clause-of c =
@@ -26,6 +34,9 @@ invariant_of-self-clause-sized c =
     let m = c.args.self.now in
     subst (λ (f : Option Record). IfSome f CanBeRecorded) (sym (c.place.ensures.rec ∙ sym c.rec_of.ensures))
     (next_recorded m.catalog m.id c.requires.anyway.S (record_of c.args.ready.step) c.requires.anyway.ready_for.next)
+
+pub invariant_of-self-clause-roomy : goal.invariant_of-self-clause-roomy
+invariant_of-self-clause-roomy c = λ up. absurd (let no = ap is_some c.lose.ensures.down in cc)
 
 pub returns-clause-comes : goal.returns-clause-comes
 returns-clause-comes c = λ layout S ready fits.
@@ -42,6 +53,6 @@ returns-clause-stands c = λ S has counted ready.
     (sym c.args.ready.copy ∙ c.in-Some.ensures.some)
     (fault_made c.only.result c.failure-outcome.result c.args.ready.rec c.args.event.now c.in-Some.failed.now c.only.ensures
     c.failure-outcome.ensures c.in-Some.ensures.some)
-    has counted ready c.requires.room.unlost m.of c.failure-outcome.ensures
+    has counted ready (room_of m c.requires.room).unlost m.of c.failure-outcome.ensures
     c.lose.ensures.lost c.lose.ensures.none refl refl c.lose.ensures.down
     (c.place.ensures.rec ∙ sym c.rec_of.ensures) refl refl

@@ -1,22 +1,41 @@
-use Rattle.std.proofs.Common.{◌∙◌, true, sym, subst, refl}
-use Rattle.std.specs.Prelude.{is_some, IfOk}
+use Rattle.std.proofs.Common.{true, Option, Some, sym, subst, refl}
+use Rattle.std.specs.Prelude.{IfOk, IfSome}
 use Rattle.walter_base.specs.ByClient.{of_client}
+use Rattle.walter_base.specs.declared.catalog.Catalog.{Catalog}
+use Rattle.walter_base.specs.declared.names.SiteId.{SiteId}
 use Rattle.walter_machine.specs.Readiness.{IsReadyFor, IsReadyAnyway}
-use Rattle.walter_machine.proofs.Answers.{down_ready, pass_ready, stop_ready, up_by, up_of}
-use Rattle.walter_machine.proofs.Standing.{down_of}
+use Rattle.walter_machine.specs.States.{IsOf, IsState}
+use Rattle.walter_machine.proofs.Answers.{pass_ready, stop_ready}
+use Rattle.walter_machine.proofs.Planned.{at_site}
+use Rattle.walter_machine.proofs.Standing.{debt_so}
 use Rattle.walter_rules.specs.declared.event.Event.{Event}
+use Rattle.walter_rules.specs.declared.event.Event.TheVariants.{Given}
 use Rattle.walter_rules.specs.Standing.{unmade}
+use Rattle.walter_tables.specs.declared.tables.Tables.{Tables}
 use Rattle.walter_machine.proofs.machine.Machine.prepare.Goals as goal
+
+pub returns-in-Given-clause-ready : goal.returns-in-Given-clause-ready
+returns-in-Given-clause-ready c = λ S has.
+    let m = c.args.self.now in
+    let made = c.prepare_input in
+    let up = subst (λ (o : Option Tables). IsState S o) c.in-Some.is has.state in
+    let of = subst (λ (o : Option Tables). IfSome o (IsOf m.catalog m.id)) c.in-Some.is m.of in
+    subst (λ (e : Event). IfOk made.result (IsReadyFor m.catalog m.id (Some made.new.site) S e)) (sym c.in-Given.is)
+    (at_site (λ (x : Catalog) (k : SiteId). IfOk made.result (IsReadyFor x k (Some made.new.site) S (Given c.in-Given.input))) c.in-Some.site
+    m.catalog m.id of (made.ensures.ready S up (debt_so m S _ _ has (m.roomy c.requires.up) c.debt_of-owed.ensures)))
 
 pub returns-in-Given-clause-anyway : goal.returns-in-Given-clause-anyway
 returns-in-Given-clause-anyway c =
     let m = c.args.self.now in
-    subst (λ (e : Event). IfOk c.prepare_input.result (IsReadyAnyway m.catalog m.id c.prepare_input.new.site e)) (sym c.in-Given.is)
-    (c.prepare_input.ensures.anyway m.catalog m.id (λ client. of_client client m.debts.entries) refl m.of c.debt_of-owed.ensures)
+    let made = c.prepare_input in
+    let of = subst (λ (o : Option Tables). IfSome o (IsOf m.catalog m.id)) c.in-Some.is m.of in
+    subst (λ (e : Event). IfOk made.result (IsReadyAnyway m.catalog m.id (Some made.new.site) e)) (sym c.in-Given.is)
+    (at_site (λ (x : Catalog) (k : SiteId). IfOk made.result (IsReadyAnyway x k (Some made.new.site) (Given c.in-Given.input))) c.in-Some.site
+    m.catalog m.id of (made.ensures.anyway (λ client. of_client client m.debts.entries) c.debt_of-owed.ensures))
 
 pub returns-in-Given-clause-stands : goal.returns-in-Given-clause-stands
 returns-in-Given-clause-stands c = λ S has. record {
-  state = c.prepare_input.ensures.state S has.state;
+  state = c.prepare_input.ensures.state S (subst (λ (o : Option Tables). IsState S o) c.in-Some.is has.state);
   told = has.told;
   flight = has.flight;
   count = has.count;
@@ -27,40 +46,24 @@ pub returns-in-Stop-clause-anyway : goal.returns-in-Stop-clause-anyway
 returns-in-Stop-clause-anyway c =
     let m = c.args.self.now in
     let made = c.without_record in
-    subst (λ (e : Event). IsReadyAnyway m.catalog m.id m.site e made.result) (sym c.in-Stop.is) (record {
+    subst (λ (e : Event). IsReadyAnyway m.catalog m.id (Some c.in-Some.site) e made.result) (sym c.in-Stop.is) (record {
       S = record unmade { up = true };
-      ready_for = stop_ready m.catalog m.id m.site (record unmade { up = true }) (sym c.is_up.ensures ∙ c.if-is_up.true) refl made.result made.ensures.step made.ensures.frames;
-    })
-
-pub returns-in-Stop-2-clause-ready : goal.returns-in-Stop-2-clause-ready
-returns-in-Stop-2-clause-ready c = λ S has.
-    let m = c.args.self.now in
-    let made = c.without_record-in-Stop-2 in
-    subst (λ (e : Event). IsReadyFor m.catalog m.id m.site S e made.result) (sym c.in-Stop.is)
-    (down_ready m.catalog m.id m.site S (down_of m.site S has.state (sym c.is_up.ensures ∙ c.if-is_up.false)) made.result made.ensures.step made.ensures.frames)
-
-pub returns-in-Stop-2-clause-anyway : goal.returns-in-Stop-2-clause-anyway
-returns-in-Stop-2-clause-anyway c =
-    let m = c.args.self.now in
-    let made = c.without_record-in-Stop-2 in
-    subst (λ (e : Event). IsReadyAnyway m.catalog m.id m.site e made.result) (sym c.in-Stop.is) (record {
-      S = unmade;
-      ready_for = down_ready m.catalog m.id m.site unmade refl made.result made.ensures.step made.ensures.frames;
+      ready_for = stop_ready m.catalog m.id (Some c.in-Some.site) (record unmade { up = true }) refl refl made.result made.ensures.step made.ensures.frames;
     })
 
 pub returns-in-Restart-clause-ready : goal.returns-in-Restart-clause-ready
 returns-in-Restart-clause-ready c = λ S has.
     let m = c.args.self.now in
     let made = c.without_record-in-Restart in
-    subst (λ (e : Event). IsReadyFor m.catalog m.id m.site S e made.result) (sym c.in-Restart.is)
-    (pass_ready m.catalog m.id m.site S (up_of m.site S has.state (up_by (is_some m.site) c.args.event.now c.requires.raised c.in-Restart.is))
-    made.result made.ensures.step made.ensures.frames)
+    let up = subst (λ (o : Option Tables). IsState S o) c.in-Some.is has.state in
+    subst (λ (e : Event). IsReadyFor m.catalog m.id (Some c.in-Some.site) S e made.result) (sym c.in-Restart.is)
+    (pass_ready m.catalog m.id (Some c.in-Some.site) S up.up made.result made.ensures.step made.ensures.frames)
 
 pub returns-in-Restart-clause-anyway : goal.returns-in-Restart-clause-anyway
 returns-in-Restart-clause-anyway c =
     let m = c.args.self.now in
     let made = c.without_record-in-Restart in
-    subst (λ (e : Event). IsReadyAnyway m.catalog m.id m.site e made.result) (sym c.in-Restart.is) (record {
+    subst (λ (e : Event). IsReadyAnyway m.catalog m.id (Some c.in-Some.site) e made.result) (sym c.in-Restart.is) (record {
       S = record unmade { up = true };
-      ready_for = pass_ready m.catalog m.id m.site (record unmade { up = true }) refl made.result made.ensures.step made.ensures.frames;
+      ready_for = pass_ready m.catalog m.id (Some c.in-Some.site) (record unmade { up = true }) refl made.result made.ensures.step made.ensures.frames;
     })

@@ -12,7 +12,7 @@ returns-clause-settles c = λ S has found_so.
     let flies = sym has.flight ∙ c.in-Some.ensures.some in
     let down = down_of m.site S has.state c.requires.down in
     let known = known_flying m S rec has flies in
-    let count = found_more S c.args.found m.records known (omega (arith, c.if-found-self.false)) found_so in
+    let count = found_more S c.args.found m.records known (omega (arith, c.if-found-before.false)) found_so in
     settles_found _ S c.args.found c.replace.result rec (c.replace.ensures.value ∙ c.in-Some.ensures.some)
     (record { restart = refl; down = down; in_flight = flies }) (record {
       state = state_of m.site S T c.requires.down down;

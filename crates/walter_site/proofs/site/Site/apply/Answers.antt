@@ -1,4 +1,4 @@
-use Rattle.std.proofs.Common.{◌≡◌, refl, IfSome, sym, subst}
+use Rattle.std.proofs.Common.{◌≡◌, None, refl, IfSome, ap, sym, ◌∙◌, subst}
 use Rattle.walter_site.specs.Members.{Knows, input_rule}
 use Rattle.walter_site.specs.Plans.{IsReady, IsFromWithin}
 use Rattle.walter_rules.specs.declared.event.Event.TheVariants.{Given}
@@ -69,3 +69,12 @@ returns-clause-knows c =
     → Knows c.take_in.new.tables (after (catalog_of x) (site_of x) K (Given input) p.outcome p.rec)) c.self.view_is
     (λ K S ruled. planned_knows t c.keep_any.new.tables c.take_in.new.tables input p c.number_begun-begun.result kept.site
     kept.catalog c.take_in.ensures.site kept.stands sizes K S ruled c.number_begun-begun.ensures c.take_in.ensures.stands)
+
+-- a tick writes no record, and is taken in by nothing
+pub returns-clause-tick : goal.returns-clause-tick
+returns-clause-tick c is =
+    let t = c.self.inside.tables in
+    let p = c.args.plan.planned in
+    let rule = subst (λ x. HasRule x c.args.input.now p) (sym c.self.view_is) c.requires.rule in
+    let none : p.rec ≡ None = ap (λ e. e.wrote) rule.2 ∙ ap (λ (i : Input). (input_rule (catalog_of t) (site_of t) rule.0 i).wrote) is in
+    c.take_in.ensures.tick is ∙ (c.keep_any.ensures.none none ∙ c.self.view_is)

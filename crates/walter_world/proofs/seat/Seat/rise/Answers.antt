@@ -1,8 +1,8 @@
-use Rattle.std.proofs.Common.{ap, ◌∙◌, refl, Option}
+use Rattle.std.proofs.Common.{◌≡◌, ap, ◌∙◌, refl, Option, arith}
 use Rattle.std.specs.Prelude.{is_some}
 use Rattle.walter_base.specs.declared.catalog.Catalog.{Catalog}
 use Rattle.walter_base.specs.declared.names.SiteId.{SiteId}
-use Rattle.walter_machine.specs.Machines.{catalog_in, site_in}
+use Rattle.walter_machine.specs.Machines.{catalog_in, site_in, records_in}
 use Rattle.walter_machine.specs.Readiness.{IsReadyAnyway}
 use Rattle.walter_rules.specs.declared.event.Event.TheVariants.{Restart}
 use Rattle.walter_rules.specs.Standing.{settled}
@@ -36,7 +36,10 @@ come-came-requires c =
     let seat = c.args.self.now in
     let S = standing_of seat in
     record {
-      room = c.settle-kept.ensures.room c.in_ok-make_room.ensures.room;
+      room = λ down. c.settle-kept.ensures.room c.in_ok-make_room.ensures.room;
+      countable = λ some.
+          let told : records_in c.settle-kept.new.self ≡ c.in_ok-tables.field-0.count = c.settle-kept.ensures.records in
+          omega (arith, c.in_ok-tables.ensures.countable);
       anyway = at_raised seat c.make_room.new.self c.settle-kept.new.self c.in_ok-tables.field-0
           (settled (catalog_in seat.machine) (site_in seat.machine) (found_by c.args.keeps S) S).records
           (λ (x : Catalog). λ (j : SiteId). λ (t : Option Tables). IsReadyAnyway x j t Restart c.in_ok-ready.ready)
