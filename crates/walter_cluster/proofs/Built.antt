@@ -22,7 +22,7 @@ use Rattle.walter_scenario.specs.declared.scenario.Client.{Client}
 use Rattle.walter_scenario.specs.declared.scenario.Scenario.{Scenario}
 use Rattle.walter_trail.specs.Calls.{calls_of}
 use Rattle.walter_cluster.specs.declared.opening.Parts.{Parts}
-use Rattle.walter_cluster.specs.Benches.{outs_at, ins_at, arms_at, is_site, is_home, IsCellAt, IsBench, IsOf, IsToldAt, AreAllConnected, AreAllAnswered, AreMet, HasRoom}
+use Rattle.walter_cluster.specs.Benches.{outs_at, ins_at, arms_at, is_site, is_home, IsCellAt, IsBench, IsOf, IsToldAt, AreRoomy, AreAllConnected, AreAllAnswered, AreMet, HasRoom}
 use Rattle.walter_cluster.specs.Builds.{AreUnread, AreUnwritten, AreUnarmed, AreLaid, HadNoRecords}
 use Rattle.walter_cluster.specs.Lanes.{AreJoined, rows_in, columns_in, row_of, column_of}
 use Rattle.walter_cluster.specs.Moments.{IsFirst, moment_of}

@@ -1,9 +1,10 @@
-use Rattle.std.proofs.Common.{◌≡◌, ◌<◌, length, set, arith, subst}
+use Rattle.std.proofs.Common.{◌≡◌, ◌<◌, Some, length, set, slice_get, arith, sym, subst}
 use Rattle.std.specs.Prelude.{IfOk, OnErr}
 use Rattle.std.proofs.lemmas.Result.{IfOk-weaker, on_err_weaker}
 use Rattle.walter_cluster.specs.Benches.{BenchValue, Keeps, trails_of}
 use Rattle.walter_cluster.specs.Moments.{KeepsArms, ActsAt, Drops, moment_of}
-use Rattle.walter_cluster.proofs.Changes.{ChangesOne}
+use Rattle.walter_cell.specs.Cells.{CellValue}
+use Rattle.walter_cluster.proofs.Changes.{ChangesOne, one_there}
 use Rattle.walter_cluster.proofs.Benches.{one_at, trails_kept, proceeds_keeps, proceeds_arms, proceeds_drops, acts_at}
 use Rattle.walter_cluster.proofs.Keeping.{each_one, whole_kept}
 use Rattle.walter_cluster.proofs.bench.Bench.act.Given.{Over}
@@ -66,3 +67,10 @@ returns-clause-kept g c =
     let at = (goal.at.returns-clause-kept g c).After-act in
     subst (λ (v : BenchValue g.row.D.Denot). OnErr c.act.result (trails_of (new g at).cells ≡ trails_of v.cells)) c.self.view_is
     (on_err_weaker c.act.result (trails_kept g.D.Disk _ _ c.args.site _ _ (one g at)) c.act.ensures.kept)
+
+pub returns-clause-roomy : goal.returns-clause-roomy
+returns-clause-roomy g c cell at room =
+    let d = (goal.at.returns-clause-roomy g c).After-act in
+    let there : slice_get (old g d).cells c.args.site.0 ≡ Some cell = rw (← c.self.view_is) at at in
+    let is : d.index_mut.result.now ≡ cell = one_there (old g d).cells c.args.site.0 d.index_mut.result.now cell (one g d).was there in
+    d.act.ensures.roomy (subst (λ (x : CellValue g.row.D.Denot). 0 < x.node.room) (sym is) room)

@@ -4,7 +4,7 @@ use Rattle.std.proofs.lemmas.Option.{slice_get_read}
 use Rattle.std.proofs.lemmas.Result.{IfOk-weaker, on_err_weaker}
 use Rattle.walter_base.specs.declared.names.SiteId.{SiteId}
 use Rattle.walter_cell.specs.Cells.{CellValue}
-use Rattle.walter_cell.specs.Lines.{LineValue, CanFail, IsLineAt, HasFaultAt}
+use Rattle.walter_cell.specs.Lines.{LineValue, CanFail, IsLineAt, HasFaultAt, NextIsWrite}
 use Rattle.walter_rules.specs.declared.entry.Entry.{Entry}
 use Rattle.walter_trail.specs.Calls.{calls_of}
 use Rattle.walter_cluster.specs.Benches.{BenchValue, Keeps, lines_at, trails_of}
@@ -179,3 +179,23 @@ returns-clause-turns g c = λ i bytes at is.
     (IfOk-weaker c.serve.result _ _
     (λ answer. turns_at g.D.Disk old.cells new h a x one (CanFail g.S.Source g.K.Sink) c.args.number bytes answer c.serve.ensures.proceeds)
     (c.serve.ensures.turn bytes is)))
+
+pub returns-clause-roomy : goal.returns-clause-roomy
+returns-clause-roomy g c =
+    let old : BenchValue g.row.D.Denot = record { cells = c.self.inside.cells.items; homes = c.self.inside.homes.items } in
+    let h = c.index-home.result.now in
+    let number : c.args.number < length old.homes = rw (← c.self.view_is) at c.requires in
+    let home : slice_get old.homes c.args.number ≡ Some h =
+    slice_get_read old.homes (length old.homes) c.args.number h refl number c.index-home.ensures in
+    let there : h.0 < length old.cells = home_within old.homes (length old.cells) c.args.number h home c.self.invariant.0.within in
+    let a = c.index_mut.result.now in
+    let one = one_at old.cells c.from.result h.0 a a c.from.ensures there c.index_mut.ensures.value in
+    subst (λ (v : BenchValue g.row.D.Denot). OnErr c.serve.result ((i : SiteId) (cell : CellValue g.row.D.Denot)
+    → slice_get v.homes c.args.number ≡ Some i → slice_get v.cells i.0 ≡ Some cell → 0 < cell.node.room
+    → NextIsWrite cell.lines c.args.number)) c.self.view_is
+    (on_err_weaker c.serve.result (λ (roomy : 0 < a.node.room → NextIsWrite a.lines c.args.number) i cell at cell_there room.
+    let same : h ≡ i = one_there old.homes c.args.number h i home at in
+    let at_home : slice_get old.cells h.0 ≡ Some cell = subst (λ (s : SiteId). slice_get old.cells s.0 ≡ Some cell) (sym same) cell_there in
+    let is : a ≡ cell = one_there old.cells h.0 a cell one.was at_home in
+    subst (λ (x : CellValue g.row.D.Denot). NextIsWrite x.lines c.args.number) is
+    (roomy (subst (λ (x : CellValue g.row.D.Denot). 0 < x.node.room) (sym is) room))) c.serve.ensures.roomy)
