@@ -11,6 +11,7 @@ use Rattle.walter_machine.specs.Machines.{HasStanding}
 use Rattle.walter_machine.specs.Machines as machine
 use Rattle.walter_rules.specs.Layouts.{Layout, one_area, two_areas}
 use Rattle.walter_rules.specs.Standing.{Standing, unmade}
+use Rattle.walter_tables.specs.declared.tables.Tables.{Tables}
 
 abbrev pub catalog_in : {D : Type 0} {g : Ghosts D} → Engine D g → Catalog
 catalog_in engine = machine.catalog_in engine.machine
@@ -35,6 +36,10 @@ shape_in engine = shape_by engine.capacity (catalog_in engine).sites
 -- the disk, bare or under a book
 abbrev pub disk_in : {D : Type 0} {g : Ghosts D} → Engine D g → Option D
 disk_in engine = disk_under engine.store
+
+-- what a site keeps that is up
+abbrev pub tables_in : {D : Type 0} {g : Ghosts D} → Engine D g → Option Tables
+tables_in engine = machine.tables_in engine.machine
 
 abbrev pub is_up : {D : Type 0} {g : Ghosts D} → Engine D g → Bool
 is_up engine = machine.is_up engine.machine

@@ -38,7 +38,7 @@ impl<D: Disk + Drop> Engine<D> {
     ghost use Rattle.walter_engine.specs.Begins.{HasOnly, MayHaveBegun, IsBegun, IsFaultOfBegin, IsLaidOver};
     ghost use Rattle.walter_engine.specs.Contents.{AreSpelled, MayHaveNext};
     ghost use Rattle.walter_engine.specs.Effects.{HasCome, HasTaken, IsRefusedFor, AreCalls, AreCallsToRestart};
-    ghost use Rattle.walter_engine.specs.Engines.{catalog_in, site_in, capacity_in, layout_for, layout_in, shape_in, disk_in, is_up, OfDisk, OfDisks};
+    ghost use Rattle.walter_engine.specs.Engines.{catalog_in, site_in, capacity_in, layout_for, layout_in, shape_in, disk_in, tables_in, is_up, OfDisk, OfDisks};
     ghost use Rattle.walter_engine.specs.Engines.{IsFresh, IsOfSameSite, IsSameEngine, Stands};
     ghost use Rattle.walter_engine.specs.Restarts.{RestartsOver};
     ghost use Rattle.walter_engine.specs.Stores.{IsOnDisk};
@@ -50,7 +50,9 @@ impl<D: Disk + Drop> Engine<D> {
     ghost use Rattle.walter_rules.specs.Standing.{Standing};
     ghost use Rattle.walter_rules.specs.Trails.{standing, opening};
     ghost use Rattle.walter_rules.specs.declared.event.Event.TheVariants as happens;
+    ghost use Rattle.walter_rules.specs.declared.event.Input.TheVariants as inputs;
     ghost use Rattle.walter_rules.specs.declared.outcome.Outcome.TheVariants as outcome;
+    ghost use Rattle.walter_tables.specs.Folding.{IsTidy};
 
     /// A site that is down, with a disk that it knows nothing of. Where there is no memory the disk comes back. Over a
     /// journal with the records of a site it stands as these tell. How a new site goes on, over a disk of no bytes or a
@@ -180,6 +182,8 @@ impl<D: Disk + Drop> Engine<D> {
         // a stop, and what comes to a site that is down, leave the disk as it is
         ensures stops { event.now ≡ happens.Stop → disk_in self.new ≡ disk_in self.old }
         ensures rests { is_up self.old ≡ false → event.now ≢ happens.Restart → disk_in self.new ≡ disk_in self.old }
+        // behind a tick all rows are folded
+        ensures tidy { event.now ≡ happens.Given inputs.Tick → IfSome (tables_in self.new) IsTidy }
         ensures engine { IsSameEngine self.old self.new }
     {
         if self.is_up() {
@@ -199,6 +203,7 @@ impl<D: Disk + Drop> Engine<D> {
         ensures device { OfDisks self.old self.new (λ old new.
             AreCalls result.came (D.device_calls old) (D.device_calls new)) }
         ensures stops { event.now ≡ happens.Stop → disk_in self.new ≡ disk_in self.old }
+        ensures tidy { event.now ≡ happens.Given inputs.Tick → IfSome (tables_in self.new) IsTidy }
     {
         let Some(Store::Open(mut book)) = mem::replace(&mut self.store, None) else {
             unreachable!()

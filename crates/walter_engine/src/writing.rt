@@ -13,7 +13,10 @@ ghost use Rattle.walter_packet.specs.Framed.{frame_of};
 ghost use Rattle.walter_rules.specs.Layouts.{Layout};
 ghost use Rattle.walter_rules.specs.Standing.{Standing, stands_after, up_after};
 ghost use Rattle.walter_rules.specs.Trails.{Comes};
+ghost use Rattle.walter_rules.specs.declared.event.Event.TheVariants as happens;
+ghost use Rattle.walter_rules.specs.declared.event.Input.TheVariants as inputs;
 ghost use Rattle.walter_rules.specs.declared.outcome.Outcome.TheVariants as outcome;
+ghost use Rattle.walter_tables.specs.Folding.{IsTidy};
 
 use std::alloc::Global;
 use walter_base::{Bytes, Mem, NoMemory, Record};
@@ -66,6 +69,9 @@ pub(crate) fn write<D: Disk>(
     ensures arms { (D.known (disk_of book.new)).arms ≡ (D.known (disk_of book.old)).arms }
     ensures tells { is_some (D.known (disk_of book.new)).reads ≡ is_some (D.known (disk_of book.old)).reads }
     ensures device { AreCalls result.0 (D.device_calls (disk_of book.old)) (D.device_calls (disk_of book.new)) }
+    // rows that are folded stay so at a tick
+    ensures tidy { event.now ≡ happens.Given inputs.Tick → IfSome (tables_in machine.old) IsTidy
+        → IfSome (tables_in machine.new) IsTidy }
     ensures same { IsSameSite machine.old machine.new }
 {
     match spell_any(alloc, book, &ready) {
@@ -117,6 +123,9 @@ pub(crate) fn put<D: Disk>(
     ensures arms { (D.known (disk_of book.new)).arms ≡ (D.known (disk_of book.old)).arms }
     ensures tells { is_some (D.known (disk_of book.new)).reads ≡ is_some (D.known (disk_of book.old)).reads }
     ensures device { AreCalls result.0 (D.device_calls (disk_of book.old)) (D.device_calls (disk_of book.new)) }
+    // rows that are folded stay so at a tick
+    ensures tidy { event.now ≡ happens.Given inputs.Tick → IfSome (tables_in machine.old) IsTidy
+        → IfSome (tables_in machine.new) IsTidy }
     ensures same { IsSameSite machine.old machine.new }
 {
     let Some(body) = body else {

@@ -13,6 +13,7 @@ use Rattle.walter_rules.specs.declared.entry.Came.{Came}
 use Rattle.walter_rules.specs.declared.event.Event.{Event}
 use Rattle.walter_rules.specs.declared.event.Event.TheVariants.{Given, Stop, Restart}
 use Rattle.walter_rules.specs.declared.event.Input.{Input}
+use Rattle.walter_rules.specs.declared.event.Input.TheVariants.{Tick}
 use Rattle.walter_rules.specs.declared.outcome.Outcome.{Outcome}
 use Rattle.walter_rules.specs.declared.outcome.Outcome.TheVariants.{Taken, Full}
 use Rattle.walter_rules.specs.Calls.{Expected}
@@ -199,3 +200,13 @@ plan_up (Some t) (Some n) S Restart plan is knows = absurd is
 pub rise_up : (catalog : Catalog) (i : SiteId) (old : Option Tables) (S : Standing) (event : Event) (tables : Tables)
     (epoch : ℕ) → IsRise catalog i old S event tables epoch → true ≡ up_after event Taken (is_some old)
 rise_up catalog i old S event tables epoch is = ap (λ (e : Event). up_after e Taken (is_some old)) (sym is.restart)
+
+-- ---- a tick
+
+pub no_stop_at_tick : (site : Option Tables) (event : Event) → IsStop site event → event ≡ Given Tick → ⊥
+no_stop_at_tick None event is tick = is
+no_stop_at_tick (Some t) event is tick = let e : Stop ≡ Given Tick = sym is ∙ tick in cc
+
+pub no_rise_at_tick : (catalog : Catalog) (i : SiteId) (site : Option Tables) (S : Standing) (event : Event) (tables : Tables)
+    (epoch : ℕ) → IsRise catalog i site S event tables epoch → event ≡ Given Tick → ⊥
+no_rise_at_tick catalog i site S event tables epoch is tick = let e : Restart ≡ Given Tick = sym is.restart ∙ tick in cc

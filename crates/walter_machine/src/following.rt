@@ -4,6 +4,8 @@ ghost use Rattle.walter_base.specs.declared.names.SiteId.{SiteId};
 ghost use Rattle.walter_machine.specs.Debts.{sessions_lost};
 ghost use Rattle.walter_machine.specs.States.{IsOf, IsState};
 ghost use Rattle.walter_machine.specs.Steps.{CanStep, IsStep, IsPlan, IsKnownBy, Steps, came_of, outcome_of, sends_of, record_of, flight_behind, records_behind};
+ghost use Rattle.walter_rules.specs.declared.event.Event.TheVariants as happens;
+ghost use Rattle.walter_rules.specs.declared.event.Input.TheVariants as inputs;
 ghost use Rattle.walter_rules.specs.Knowledge.{Knowledge};
 ghost use Rattle.walter_rules.specs.Learning.{after};
 ghost use Rattle.walter_rules.specs.Standing.{Standing, up_after};
@@ -38,6 +40,7 @@ pub fn follow(
     ensures of { (catalog : Catalog) (i : SiteId) (S : Standing) → IfSome site.old (IsOf catalog i)
         → IsStep catalog i site.old S event.now step → IfSome site.new (IsOf catalog i) }
     ensures up { is_some site.new ≡ up_after event.now (outcome_of step) (is_some site.old) }
+    ensures tick { event.now ≡ happens.Given inputs.Tick → site.new ≡ site.old }
     ensures unlost { is_some site.new ≡ true → lost.new ≡ None }
 {
     match step {
@@ -81,6 +84,7 @@ fn apply(site: &mut Option<Site>, event: &Event, plan: PackedPlan) -> (Outcome, 
         IsKnownBy site.new (after (catalog_of t) (site_of t) S.knows event.now plan.planned.outcome plan.planned.rec)) }
     ensures of { (catalog : Catalog) (i : SiteId) → IfSome site.old (IsOf catalog i)
         → IfSome site.new (IsOf catalog i) }
+    ensures tick { event.now ≡ happens.Given inputs.Tick → site.new ≡ site.old }
 {
     let Some(site) = site else { unreachable!() };
     let Event::Given(input) = event else {

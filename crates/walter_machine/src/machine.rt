@@ -230,6 +230,7 @@ impl Machine {
             → IsReadyFor (catalog_in self.old) (site_in self.old) (tables_in self.old) S event.now ready
             → HasStanding self.new (stands_after (catalog_in self.old) (site_in self.old) S event.now result.0) }
         ensures up { is_up self.new ≡ up_after event.now result.0.outcome (is_up self.old) }
+        ensures tick { event.now ≡ happens.Given inputs.Tick → tables_in self.new ≡ tables_in self.old }
         ensures same { IsSameSite self.old self.new }
     {
         let Ready {

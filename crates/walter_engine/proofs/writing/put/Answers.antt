@@ -1,5 +1,5 @@
-use Rattle.std.proofs.Common.{◌≡◌, [], rules, ◌≤◌, ℕ, List, length, map, true, false, Some, None, sym, ◌∙◌, subst, ap, inl, inr, refl, arith}
-use Rattle.std.specs.Prelude.{IsSome, is_some}
+use Rattle.std.proofs.Common.{◌≡◌, [], rules, ◌≤◌, ℕ, List, length, map, true, false, Option, Some, None, sym, ◌∙◌, subst, ap, inl, inr, refl, arith}
+use Rattle.std.specs.Prelude.{IfSome, IsSome, is_some}
 use Rattle.walter_base.specs.Sizes.{CanBeRecorded}
 use Rattle.walter_checkpoint.specs.Books.{disk_of, left_of, HasRoom}
 use Rattle.walter_checkpoint.specs.declared.book.Book.{Book}
@@ -21,6 +21,8 @@ use Rattle.walter_rules.specs.Trails.{only, failure, fullness}
 use Rattle.walter_rules.specs.Sending.{Send}
 use Rattle.walter_rules.specs.Standing.{up_after}
 use Rattle.walter_rules.specs.declared.entry.Came.{Came}
+use Rattle.walter_tables.specs.Folding.{IsTidy}
+use Rattle.walter_tables.specs.declared.tables.Tables.{Tables}
 
 -- there is no record
 pub returns-in_default : goal.returns-in_default
@@ -53,6 +55,7 @@ returns-in_default g c =
       arms = refl;
       tells = refl;
       device = calls_as c.keep.result.0 None None _ _ (ap (λ (x : Came). x.wrote) came ∙ free) (ap (λ (x : Came). x.flight) came) refl;
+      tidy = λ tick. subst (λ (t : Option Tables). IfSome t IsTidy) (sym (c.keep.ensures.tick tick));
       same = c.keep.ensures.same;
     }
 
@@ -103,6 +106,7 @@ returns-in-Ok g c =
       tells = c.append.ensures.tells;
       device = calls_as c.keep-in-Ok.result.0 (Some s.0) None _ _ (ap (λ (x : Came). x.wrote) came ∙ s.1)
           (ap (λ (x : Came). x.flight) came) c.in-Ok.ensures.device;
+      tidy = λ tick. subst (λ (t : Option Tables). IfSome t IsTidy) (sym (c.keep-in-Ok.ensures.tick tick));
       same = c.keep-in-Ok.ensures.same;
     }
 
@@ -148,6 +152,7 @@ returns-in-Err-Failed g c =
       tells = c.append.ensures.tells;
       device = calls_as c.fail.result None (Some s.0) _ _ (ap (λ (x : Came). x.wrote) came) (ap (λ (x : Came). x.flight) came)
           c.append.ensures.at_most;
+      tidy = λ tick was. subst (λ (t : Option Tables). IfSome t IsTidy) (sym c.fail.ensures.down) tt;
       same = c.fail.ensures.same;
     }
 
@@ -204,5 +209,6 @@ returns g c =
       tells = c.append.ensures.tells;
       device = calls_as c.overflow.result None None _ _ (ap (λ (x : Came). x.wrote) came) (ap (λ (x : Came). x.flight) came)
           (ap (λ (b : Book g.row.D.Denot g.D.Disk). g.D.Disk.device_calls (disk_of b)) full.3);
+      tidy = λ tick. subst (λ (t : Option Tables). IfSome t IsTidy) (sym c.overflow.ensures.tables);
       same = c.overflow.ensures.same;
     }

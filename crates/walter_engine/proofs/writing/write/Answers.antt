@@ -49,6 +49,7 @@ returns-in-Ok g c =
       arms = put.arms ∙ ap (λ (d : DiskState). d.arms) same.disk;
       tells = put.tells ∙ ap (λ (d : DiskState). is_some d.reads) same.disk;
       device = same_calls c.put.result.0 _ _ _ same.book.device put.device;
+      tidy = put.tidy;
       same = put.same;
     }
 
@@ -83,5 +84,6 @@ returns-in-Err g c =
       arms = ap (λ (d : DiskState). d.arms) same.disk;
       tells = ap (λ (d : DiskState). is_some d.reads) same.disk;
       device = calls_as c.want.result None None _ _ (ap (λ (x : Came). x.wrote) came) (ap (λ (x : Came). x.flight) came) same.book.device;
+      tidy = λ tick was. was;
       same = record { catalog = refl; id = refl };
     }

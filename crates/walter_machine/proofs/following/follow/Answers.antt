@@ -5,7 +5,7 @@ use Rattle.walter_machine.specs.declared.ready.Step.{Step}
 use Rattle.walter_machine.specs.declared.ready.Step.TheVariants.{Apply, Fall, Rise}
 use Rattle.walter_tables.specs.declared.tables.Tables.{Tables}
 use Rattle.walter_machine.specs.Steps.{Steps, IsStep, came_of, outcome_of}
-use Rattle.walter_machine.proofs.Behind.{plan_steps, fall_steps, rise_steps, idle_up, plan_up, rise_up}
+use Rattle.walter_machine.proofs.Behind.{plan_steps, fall_steps, rise_steps, idle_up, plan_up, rise_up, no_stop_at_tick, no_rise_at_tick}
 use Rattle.walter_base.specs.declared.message.Record.TheVariants.{Boot}
 use Rattle.walter_rules.specs.Learning.{recorded}
 use Rattle.walter_session.specs.Sessions.{Table}
@@ -74,3 +74,18 @@ returns-in-Rise-clause-up c =
     subst (λ (s : Step). is_some c.rise.new.site ≡ up_after event (outcome_of s) (is_some site)) (sym c.in-Rise.is)
     (ap is_some c.rise.ensures ∙ rise_up can.catalog can.i site can.S event c.in-Rise.tables.value c.in-Rise.field-1
     (subst (λ (s : Step). IsStep can.catalog can.i site can.S event s) c.in-Rise.is can.is))
+
+pub returns-in-Apply-clause-tick : goal.returns-in-Apply-clause-tick
+returns-in-Apply-clause-tick c = c.apply.ensures.tick
+
+pub returns-in-Fall-clause-tick : goal.returns-in-Fall-clause-tick
+returns-in-Fall-clause-tick c = λ tick.
+    let can = c.requires.can in
+    absurd (no_stop_at_tick c.args.site.now c.args.event.now
+    (subst (λ (s : Step). IsStep can.catalog can.i c.args.site.now can.S c.args.event.now s) c.in-Fall.is can.is) tick)
+
+pub returns-in-Rise-clause-tick : goal.returns-in-Rise-clause-tick
+returns-in-Rise-clause-tick c = λ tick.
+    let can = c.requires.can in
+    absurd (no_rise_at_tick can.catalog can.i c.args.site.now can.S c.args.event.now c.in-Rise.tables.value c.in-Rise.field-1
+    (subst (λ (s : Step). IsStep can.catalog can.i c.args.site.now can.S c.args.event.now s) c.in-Rise.is can.is) tick)

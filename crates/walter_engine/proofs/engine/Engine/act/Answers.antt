@@ -71,6 +71,7 @@ returns-in_default-prepare g c =
           rw before
           (calls_as c.want.result None None _ _ (ap (λ (x : Came). x.wrote) came) (ap (λ (x : Came). x.flight) came) refl);
       stops = λ stop. sym before;
+      tidy = c.prepare.ensures.tidy;
     }
 
 pub write-came-requires-clause-room : goal.write-came-requires-clause-room
@@ -134,4 +135,5 @@ returns g c =
           let none = ap (λ (e : Expected). e.wrote) c.in-Ok.ensures.anyway.ready_for.rule
           ∙ ap (λ e. (rule (catalog_in c.args.self.now.machine) (site_in c.args.self.now.machine) c.in-Ok.ensures.anyway.S e).wrote) stop ∙ stop_brings (catalog_in c.args.self.now.machine) (site_in c.args.self.now.machine) c.in-Ok.ensures.anyway.S in
           now ∙ ap Some (c.write-came.ensures.untouched none) ∙ sym before;
+      tidy = λ tick. c.write-came.ensures.tidy tick (c.prepare.ensures.tidy tick);
     }
