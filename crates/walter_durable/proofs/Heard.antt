@@ -11,7 +11,7 @@ module _ (most : ℕ) (said : List ℕ) (peer : SiteId) (number : ℕ) where
   greater = set said peer.0 (max (entry_at said peer) number)
 
   -- there are as many entries
-  heard_long : length (heard most said peer number) ≡ length said
+  pub heard_long : length (heard most said peer number) ≡ length said
   heard_long = elim (nat_le number most) as (λ b. length (if b then greater else said) ≡ length said) [
     | true ↦ length-set said peer.0 (max (entry_at said peer) number)
     | false ↦ refl

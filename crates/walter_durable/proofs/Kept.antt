@@ -1,16 +1,20 @@
 -- What the code keeps, where it hears what a peer says.
 use Rattle.std.proofs.Common.{◌≡◌, ◌∙◌, ◌<◌, ◌≤◌, ℕ, List, [], length, ap, sym, subst, arith}
 use Rattle.walter_base.specs.declared.names.SiteId.{SiteId}
-use Rattle.walter_base.specs.Vectors.{entry_at}
+use Rattle.walter_base.specs.Vectors.{most_sites, entry_at}
 use Rattle.walter_durable.specs.declared.durable.Durable.TheInside.{Inside}
 use Rattle.walter_durable.specs.Marks.{Holdings, heard, IsPossible, AreHeld, with_acknowledged, with_visible}
 use Rattle.walter_durable.specs.Counted.{kept_in, copies_in, IsCounted}
 use Rattle.walter_durable.proofs.Held.{still_are_held, are_held_beside, counted_beside}
-use Rattle.walter_durable.proofs.Heard.{heard_more}
+use Rattle.walter_durable.proofs.Heard.{heard_long, heard_more}
 
 -- of the copies alone the same are held
 pub copies_held : (d : Inside) → AreHeld (kept_in d) d.counted → AreHeld (copies_in d.copies d.acknowledged) d.counted
 copies_held d held = are_held_beside (kept_in d) [] 0 0 d.counted held
+
+-- this site is one that a catalog may have
+pub here_few : (d : Inside) → IsPossible (kept_in d) → d.copies.site.0 < most_sites
+here_few d possible = omega (arith, possible.here, possible.few)
 
 module _ (d : Inside) (most : ℕ) (all : most ≡ length d.copies.preferred.items) (said : List ℕ)
     (peer : SiteId) (number : ℕ) where
@@ -29,6 +33,12 @@ module _ (d : Inside) (most : ℕ) (all : most ≡ length d.copies.preferred.ite
         subst (λ (v : List ℕ). entry_at d.acknowledged site ≤ entry_at v site) (sym is)
         (heard_more most d.acknowledged peer number site.0 within))
         d.counted (copies_held d held)
+
+    pub heard_few : IsPossible (kept_in d) → length said ≤ most_sites
+    heard_few possible =
+        let long : length said ≡ length d.acknowledged =
+        ap length is ∙ heard_long most d.acknowledged peer number in
+        omega (arith, long, possible.acknowledged, possible.few)
 
     pub counted_heard : (m : ℕ) → IsCounted (copies_in d.copies said) m
         → IsCounted (with_acknowledged peer number (kept_in d)) m

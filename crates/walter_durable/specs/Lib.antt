@@ -1,2 +1,4 @@
 pub mod Marks
+pub mod Bits
+pub mod Codes
 pub mod Counted

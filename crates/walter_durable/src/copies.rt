@@ -1,4 +1,5 @@
-use walter_base::{SiteId, Sites, Vts};
+use crate::preferred::PreferredSites;
+use walter_base::{MOST_SITES, SiteId, Vts};
 
 /// The own commits, and the sites that are to hold them. This one holds all of them, and a peer those that it has
 /// acknowledged: how many, is an argument.
@@ -9,11 +10,12 @@ pub struct Copies {
     /// How many sites may be lost.
     pub tolerated: u8,
     /// By own commit, the preferred sites of the objects that it changed.
-    pub preferred: Vec<Sites>,
+    pub preferred: Vec<PreferredSites>,
 }
 
 impl Copies {
     ghost use Rattle.std.specs.Prelude.{◌≡◌, ◌<◌, ◌≤◌, ◌↔◌, true, length, All, IsTrue};
+    ghost use Rattle.walter_base.specs.Vectors.{most_sites};
     ghost use Rattle.walter_durable.specs.Marks.{own, holds, holders, IsHeldAt, IsHeld, AreHeld};
     ghost use Rattle.walter_durable.specs.Counted.{copies_in, IsCounted};
 
@@ -45,17 +47,28 @@ impl Copies {
         count
     }
 
-    /// Whether each of the sites holds it.
-    fn are_holders(&self, q: u64, sites: &Sites, acknowledged: &Vts) -> bool
+    /// Whether each of the sites holds it. Those that no catalog has hold nothing, and the first of these is looked at
+    /// for all of them.
+    fn are_holders(&self, q: u64, sites: &PreferredSites, acknowledged: &Vts) -> bool
+        requires some { 0 < q }
+        requires here { self.now.site.0 < most_sites }
+        requires few { length acknowledged.now ≤ most_sites }
         ensures { IsTrue result ↔ All (λ site. holds (copies_in self.now acknowledged.now) q site ≡ true) sites.now }
     {
-        let mut sites = sites.as_slice().iter();
-        sites.all(|site| self.holds(q, *site, acknowledged))
+        for place in 0..=MOST_SITES as u8 {
+            if sites.has(place) && !self.holds(q, SiteId(place), acknowledged) {
+                return false;
+            }
+        }
+        true
     }
 
     /// Whether it may be called durable, as far as the ones before it may, where these are the preferred sites of the
     /// objects that it changed.
-    pub fn is_held_at(&self, q: u64, preferred: &Sites, acknowledged: &Vts) -> bool
+    pub fn is_held_at(&self, q: u64, preferred: &PreferredSites, acknowledged: &Vts) -> bool
+        requires some { 0 < q }
+        requires here { self.now.site.0 < most_sites }
+        requires few { length acknowledged.now ≤ most_sites }
         ensures { IsTrue result ↔ IsHeldAt (copies_in self.now acknowledged.now) q preferred.now }
     {
         self.holders(q, acknowledged) > self.tolerated
@@ -66,6 +79,8 @@ impl Copies {
     fn is_held(&self, q: u64, acknowledged: &Vts) -> bool
         requires some { 0 < q }
         requires within { q ≤ own (copies_in self.now acknowledged.now) }
+        requires here { self.now.site.0 < most_sites }
+        requires few { length acknowledged.now ≤ most_sites }
         ensures { IsTrue result ↔ IsHeld (copies_in self.now acknowledged.now) q }
     {
         let preferred = &self.preferred[(q - 1) as usize];
@@ -74,7 +89,9 @@ impl Copies {
 
     /// Counts on from a number up to which the own commits are held. It looks at each that it counts, and at the next.
     pub fn count_on(&self, from: u64, acknowledged: &Vts) -> u64
-        requires { AreHeld (copies_in self.now acknowledged.now) from }
+        requires held { AreHeld (copies_in self.now acknowledged.now) from }
+        requires here { self.now.site.0 < most_sites }
+        requires few { length acknowledged.now ≤ most_sites }
         ensures { IsCounted (copies_in self.now acknowledged.now) result }
     {
         let mut counted = from;

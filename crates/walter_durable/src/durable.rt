@@ -5,6 +5,7 @@ ghost use Rattle.walter_durable.specs.Marks.{unbegun, own, heard, AreVisible, Is
 ghost use Rattle.walter_durable.specs.Counted.{IsCounted};
 
 use crate::copies::Copies;
+use crate::preferred::PreferredSites;
 use std::alloc::Global;
 use std::marker::Model;
 use walter_base::{Mem, SiteId, Sites, Vts};
@@ -116,6 +117,7 @@ impl Durable {
         ensures holdings { self.new.holdings ≡ with_own preferred self.old.holdings }
         ensures room { self.new.room + 1 ≡ self.old.room }
     {
+        let preferred = PreferredSites::of(&preferred);
         let counted = self.counted_with_own(&preferred);
         let seen_by_all = self.seen_with_own();
         self.copies.preferred.push_reserved(preferred);
@@ -161,7 +163,8 @@ impl Durable {
         ensures rises { self.now.holdings.durable_floor ≤ result }
         ensures within { result ≤ own self.now.holdings + 1 }
     {
-        self.durable_floor.max(self.counted_with_own(preferred))
+        let preferred = PreferredSites::of(preferred);
+        self.durable_floor.max(self.counted_with_own(&preferred))
     }
 
     /// How many would be, if the site had received so many own commits. It looks at those that the mark moves over, and
@@ -179,7 +182,7 @@ impl Durable {
     }
 
     /// How many own commits are held one after another, with one more that changed objects of these preferred sites.
-    fn counted_with_own(&self, preferred: &Sites) -> u64
+    fn counted_with_own(&self, preferred: &PreferredSites) -> u64
         ensures { IsCounted (with_own preferred.now self.now.holdings) result }
     {
         let next = self.copies.own() + 1;

@@ -3,5 +3,7 @@
 
 mod copies;
 mod durable;
+mod ghost_sites;
+mod preferred;
 
 pub use durable::Durable;

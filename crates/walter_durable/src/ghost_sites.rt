@@ -1,0 +1,28 @@
+ghost use Rattle.std.specs.Prelude.{◌≡◌, List};
+ghost use Rattle.std.specs.Borrow.{ftrue};
+ghost use Rattle.walter_base.specs.declared.names.SiteId.{SiteId as Site};
+ghost use Rattle.walter_durable.specs.Codes.{sites_code};
+
+use std::marker::Model;
+use walter_base::Sites;
+
+/// Sites in some order. They exist in proofs alone, and take no memory.
+#[derive(Drop)]
+pub struct GhostSites {
+    pub ghost sites: { List Site } by { sites_code },
+}
+
+impl Model for GhostSites {
+    ghost also_owns = { λ _. ftrue };
+}
+
+// It owns nothing.
+unsafe impl Send for GhostSites {}
+
+impl GhostSites {
+    pub fn of(sites: &Sites) -> GhostSites
+        ensures { result.sites ≡ sites.now }
+    {
+        GhostSites {}
+    }
+}
