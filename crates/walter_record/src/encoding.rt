@@ -58,6 +58,7 @@ fn write_fields(out: &mut Appender, journaled: &Record)
     requires spelled { CanBeRecorded journaled.now }
     requires room { size_of_record journaled.now ≤ 1 + out.old.room }
     ensures bytes { out.new.bytes ≡ out.old.bytes ++ fields_spelled journaled.now }
+    ensures room { out.new.room + size_of_record journaled.now ≡ 1 + out.old.room }
     ensures ranges { AreInRange journaled.now }
 {
     match journaled {
@@ -83,8 +84,20 @@ fn write_fields(out: &mut Appender, journaled: &Record)
     }
 }
 
-/// The one spelling of the record.
+/// Writes the record's spelling behind what was written. It takes no memory.
 #[tactic(auto, using(crate::proofs::Records::record_parts))]
+pub fn append(out: &mut Appender, journaled: &Record)
+    requires spelled { CanBeRecorded journaled.now }
+    requires room { size_of_record journaled.now ≤ out.old.room }
+    ensures bytes { out.new.bytes ≡ out.old.bytes ++ record_spelled journaled.now }
+    ensures room { out.new.room + size_of_record journaled.now ≡ out.old.room }
+    ensures ranges { AreInRange journaled.now }
+{
+    out.u8(kind(journaled));
+    write_fields(out, journaled);
+}
+
+/// The one spelling of the record.
 pub fn encode(alloc: Global, journaled: &Record) -> Mem<Bytes>
     requires { CanBeRecorded journaled.now }
     ensures bytes { IfOk result (λ bytes. bytes ≡ record_spelled journaled.now) }
@@ -93,7 +106,6 @@ pub fn encode(alloc: Global, journaled: &Record) -> Mem<Bytes>
     let Ok(mut out) = Appender::with_room(alloc, size(journaled)) else {
         return Err(NoMemory);
     };
-    out.u8(kind(journaled));
-    write_fields(&mut out, journaled);
+    append(&mut out, journaled);
     Ok(Bytes::from(out.into_bytes()))
 }

@@ -6,5 +6,5 @@ mod encoding;
 mod laws;
 
 pub use decoding::decode;
-pub use encoding::encode;
+pub use encoding::{append, encode};
 pub use laws::{one_spelling, size_of_spelling};
