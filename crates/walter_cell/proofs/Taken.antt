@@ -19,7 +19,7 @@ use Rattle.walter_trail.specs.Calls.{call_by, calls_of}
 use Rattle.walter_cell.specs.Cells.{CellValue, IsCell, Keeps, Proceeds}
 use Rattle.walter_cell.specs.Entries.{IsPlain, IsSpent, Grows}
 use Rattle.walter_cell.specs.Lines.{LineValue, is_here, IsLineAt}
-use Rattle.walter_cell.specs.Nodes.{NodeValue, IsSameButRoom, IsSameButDisk, IsSameButLanes, KeepsNode, Takes, entry_by, clock_in, arms_under, is_told}
+use Rattle.walter_cell.specs.Nodes.{NodeValue, IsSameButRoom, IsSameButDisk, IsSameButLanes, KeepsNode, Takes, entry_by, clock_in, places_in, arms_under, is_told}
 use Rattle.walter_cell.specs.Written.{AreWritten, AreWrittenAt, framed_for, replies_to}
 
 -- ---- events that bring nothing
@@ -189,6 +189,7 @@ module _ {D : Type 0} (old : CellValue D) (node : NodeValue D) where
         layout = ap (λ (n : NodeValue D). n.layout) same;
         told = told;
         rings = ap (λ (n : NodeValue D). out_rings n.outs) same;
+        places = let e : places_in node ≡ places_in old.node = ap (λ (n : NodeValue D). places_in n) same in omega (arith, e);
       }) refl (λ from. omega arith) refl (ap (λ (n : NodeValue D). n.trail) same)
 
   pub keeps_lanes : (g : Ghosts D) → IsSameButLanes old.node node → out_rings node.outs ≡ out_rings old.node.outs
@@ -200,6 +201,7 @@ module _ {D : Type 0} (old : CellValue D) (node : NodeValue D) where
         layout = ap (λ (n : NodeValue D). n.layout) same;
         told = ap (λ (n : NodeValue D). is_told g n.disk) same;
         rings = rings;
+        places = let e : places_in node ≡ places_in old.node = ap (λ (n : NodeValue D). places_in n) same in omega (arith, e);
       }) refl (λ from. omega arith) refl (ap (λ (n : NodeValue D). n.trail) same)
 
 -- an event of no client comes to a cell, whose connections stay

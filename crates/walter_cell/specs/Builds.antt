@@ -6,7 +6,7 @@ use Rattle.walter_disk.specs.declared.disk.Disk.{Ghosts}
 use Rattle.walter_engine.specs.declared.answers.BeginFault.{BeginFault}
 use Rattle.walter_checkpoint.specs.Areas.{Shape}
 use Rattle.walter_engine.specs.Begins.{HasOnly, IsBegun, IsFaultOfBegin, IsLaidOver, MayHaveBegun}
-use Rattle.walter_engine.specs.Engines.{catalog_in, site_in, capacity_in, layout_for, layout_in, disk_in, is_up, IsFresh}
+use Rattle.walter_engine.specs.Engines.{catalog_in, site_in, capacity_in, layout_for, disk_in, is_up, IsFresh}
 use Rattle.walter_engine.specs.declared.engine.Engine.{Engine}
 use Rattle.walter_lane.specs.Lanes.{Sending}
 use Rattle.walter_rules.specs.Layouts.{Layout}

@@ -1,4 +1,4 @@
-use Rattle.std.proofs.Common.{◌≡◌, ◌<◌, ℕ, length, arith, ◌∙◌}
+use Rattle.std.proofs.Common.{◌<◌, length, arith, ◌∙◌}
 use Rattle.std.proofs.lemmas.List.{length-set}
 use Rattle.walter_outbox.specs.Lanes.{arrived_from}
 use Rattle.walter_cell.proofs.Meeting.{grows_met, in_rings_met, prefix_on}

@@ -92,7 +92,7 @@ take-requires-clause-sized g c =
     let spelled = framed.spelled in
     let sites : c.in-Some-post.post.now.framed.sites ≡ c.make_ready.new.self.catalog.sites =
     (let long = c.self.inside.ins.ok.0 in let same : c.in-Some-post.post.now.framed.sites ≡ length c.self.inside.ins.items = grind (arith, nat_tests) in same)
-    ∙ (c.self.invariant.ins ∙ sym (ap (λ (n : NodeValue g.row.D.Denot). n.catalog.sites) c.in_ok-make_ready.ensures.same)) in
+    ∙ (c.self.invariant.ins ∙ sym (ap (λ (n : NodeValue g.row.D.Denot). n.catalog.sites) c.in_ok-make_ready.ensures.same.same)) in
     subst (λ n. IsSizedPacket n c.in_ok-packet.packet) sites (record { sizes = spelled.sizes; among = spelled.among })
 
 pub invariant_of-self-2 : goal.invariant_of-self-2

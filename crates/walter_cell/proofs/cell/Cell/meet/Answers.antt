@@ -1,4 +1,4 @@
-use Rattle.std.proofs.Common.{◌≡◌, ◌<◌, ℕ, List, length, map, refl, ap, sym, ◌∙◌, subst, slice_set, Result, Ok, Err}
+use Rattle.std.proofs.Common.{◌≡◌, ◌<◌, ℕ, List, length, map, refl, ap, sym, ◌∙◌, subst, slice_set, Result, Ok, Err, arith}
 use Rattle.std.specs.Prelude.{slice_index_or}
 use Rattle.std.specs.Prelude.{OnOk, OnErr}
 use Rattle.walter_lane.specs.Lanes.{Sending, Receiving}
@@ -34,7 +34,7 @@ returns-clause-keeps g c =
     let sender : CellValue g.row.D.Denot = record { node = c.sender.inside.node; ins = c.sender.inside.ins.items; lines = c.sender.inside.lines.items } in
     let new : CellValue g.row.D.Denot = record old { ins = slice_set old.ins c.from.result c.meet.new.inbound } in (
       subst (λ (v : CellValue g.row.D.Denot). Keeps g.D.Disk v new) c.self.view_is
-          (keeps_trail g.D.Disk old new (record { catalog = refl; site = refl; layout = refl; told = refl; rings = refl })
+          (keeps_trail g.D.Disk old new (record { catalog = refl; site = refl; layout = refl; told = refl; rings = refl; places = omega arith })
           (in_rings_met old.ins c.from.result c.index_mut.result.now c.meet.new.inbound c.index_mut.ensures.value c.meet.ensures.rings.1)
           (λ j. prefix_long (arrived_from old.ins j) (arrived_from new.ins j)
           (grows_met old.ins c.from.result c.index_mut.result.now c.meet.new.inbound c.index_mut.ensures.value

@@ -1,4 +1,4 @@
-use Rattle.std.proofs.Common.{◌≡◌, List, refl, subst}
+use Rattle.std.proofs.Common.{List, refl, subst, arith}
 use Rattle.walter_lane.specs.Lanes.{Receiving}
 use Rattle.walter_outbox.specs.Lanes.{arrived_from}
 use Rattle.walter_cell.specs.Cells.{CellValue, Keeps}
@@ -16,5 +16,5 @@ returns-clause-keeps g c =
     let old : CellValue g.row.D.Denot = record { node = c.self.inside.node; ins = ins; lines = c.self.inside.lines.items } in
     subst (λ (v : CellValue g.row.D.Denot). Keeps g.D.Disk v (record old { ins = now })) c.self.view_is
     (keeps_trail g.D.Disk old (record old { ins = now })
-    (record { catalog = refl; site = refl; layout = refl; told = refl; rings = refl }) c.poll_all.ensures.rings
+    (record { catalog = refl; site = refl; layout = refl; told = refl; rings = refl; places = omega arith }) c.poll_all.ensures.rings
     (λ j. prefix_long (arrived_from ins j) (arrived_from now j) (c.poll_all.ensures.more j)) refl refl)
