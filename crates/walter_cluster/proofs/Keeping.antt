@@ -46,7 +46,7 @@ module _ {D : Type 0} (g : Ghosts D) where
 
   pub keeps_self : (c : CellValue D) → cell.Keeps g c c
   keeps_self c = record {
-    node = record { catalog = refl; site = refl; layout = refl; told = refl; rings = refl };
+    node = record { catalog = refl; site = refl; layout = refl; told = refl; rings = refl; places = omega arith };
     ins = refl;
     more = λ from. omega arith;
     here = λ client. refl;
@@ -62,6 +62,7 @@ module _ {D : Type 0} (g : Ghosts D) where
       layout = second.node.layout ∙ first.node.layout;
       told = second.node.told ∙ first.node.told;
       rings = second.node.rings ∙ first.node.rings;
+      places = let one = first.node.places in let two = second.node.places in omega (arith, one, two);
     };
     ins = second.ins ∙ first.ins;
     more = λ from. let a = first.more from in let b = second.more from in omega (arith, a, b);

@@ -7,7 +7,7 @@ use Rattle.walter_cell.specs.Cells.{CellValue, HaveMet}
 use Rattle.walter_cell.specs.Cells as cell
 use Rattle.walter_machine.specs.Comings.{IsSized}
 use Rattle.walter_cell.specs.Lines.{IsLineAt, is_here}
-use Rattle.walter_cell.specs.Nodes.{NodeValue, IsSound, arms_under, is_told}
+use Rattle.walter_cell.specs.Nodes.{NodeValue, IsSound, arms_under, is_told, places_in}
 use Rattle.walter_cell.specs.Written.{AreWrittenAt}
 use Rattle.walter_disk.specs.declared.disk.Disk.{Ghosts}
 use Rattle.walter_lane.specs.Lanes.{Sending, Receiving}
@@ -50,6 +50,7 @@ module _ {D : Type 0} where
       layout = ap (λ (n : NodeValue D). n.layout) stay.node;
       told = ap (λ (n : NodeValue D). is_told g n.disk) stay.node;
       rings = stay.outs;
+      places = let e : places_in b.node ≡ places_in a.node = ap (λ (n : NodeValue D). places_in n) stay.node in omega (arith, e);
     };
     ins = stay.ins;
     more = stay.more;

@@ -7,6 +7,7 @@ use Rattle.std.proofs.lemmas.Option.{same_Some, slice_get-map, slice_get_within}
 use Rattle.walter_cell.specs.Builds.{Begins}
 use Rattle.walter_cell.specs.Cells.{CellValue, HasBegun}
 use Rattle.walter_cell.specs.Lines.{LineValue}
+use Rattle.walter_cell.specs.Nodes.{places_in}
 use Rattle.walter_disk.specs.declared.disk.Disk.{Ghosts}
 use Rattle.walter_engine.specs.Begins.{HasOnly, HasNoRecord, MayHaveBegun, IsBegun, IsFaultOfBegin}
 use Rattle.walter_engine.specs.declared.answers.BeginFault.{BeginFault}

@@ -62,6 +62,7 @@ module _ {D : Type 0} (g : Ghosts D) where
     told = refl;
     arms = refl;
     outs = refl;
+    places = omega arith;
     ins = refl;
     more = λ from. omega arith;
     here = λ client. refl;
@@ -78,6 +79,7 @@ module _ {D : Type 0} (g : Ghosts D) where
     told = keeps.node.told ∙ gone.told;
     arms = arms ∙ gone.arms;
     outs = keeps.node.rings ∙ gone.outs;
+    places = let one = gone.places in let two = keeps.node.places in omega (arith, one, two);
     ins = keeps.ins ∙ gone.ins;
     more = λ from. let a = gone.more from in let b = keeps.more from in omega (arith, a, b);
     here = λ client. keeps.here client ∙ gone.here client;
@@ -88,7 +90,14 @@ module _ {D : Type 0} (g : Ghosts D) where
   -- so it keeps what a call keeps
   pub gone_keeps : (t : Scenario) (a b : CellValue D) → HasGoneOn g (origin_of g t a) b → cell.Keeps g a b
   gone_keeps t a b gone = record {
-    node = record { catalog = gone.catalog; site = gone.site; layout = gone.layout; told = gone.told; rings = gone.outs };
+    node = record {
+      catalog = gone.catalog;
+      site = gone.site;
+      layout = gone.layout;
+      told = gone.told;
+      rings = gone.outs;
+      places = gone.places;
+    };
     ins = gone.ins;
     more = gone.more;
     here = gone.here;

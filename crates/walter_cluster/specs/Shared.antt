@@ -4,7 +4,7 @@ use Rattle.walter_base.specs.declared.names.SiteId.{SiteId}
 use Rattle.walter_base.specs.Vectors.{most_sites}
 use Rattle.walter_cell.specs.Cells.{CellValue}
 use Rattle.walter_cell.specs.Lines.{is_here, IsLineAt}
-use Rattle.walter_cell.specs.Nodes.{arms_under, is_told}
+use Rattle.walter_cell.specs.Nodes.{arms_under, is_told, places_in}
 use Rattle.walter_cell.specs.Written.{AreWrittenAt}
 use Rattle.walter_disk.specs.declared.disk.Disk.{Ghosts}
 use Rattle.walter_link.specs.Pumps.{PumpValue, taken_from}
@@ -62,8 +62,8 @@ module _ {D : Type 0} (g : Ghosts D) where
   origins_of t cells = map (origin_of t) cells
 
   -- A cell has gone on from what it was: it is the same site's, over the same kind of disk, with its lanes and its clients,
-  -- and with the same arms. Of the bytes of a client the calls in the trail were read, where they were; and what it is
-  -- sent are the replies to its calls in the trail, behind what was there.
+  -- with the same arms, and with as many places for entries at least. Of the bytes of a client the calls in the trail were
+  -- read, where they were; and what it is sent are the replies to its calls in the trail, behind what was there.
   pub record HasGoneOn (o : Origin) (c : CellValue D) : Type 0 where
     pub catalog : c.node.catalog ≡ o.cell.node.catalog
     pub site : c.node.site ≡ o.cell.node.site
@@ -71,6 +71,7 @@ module _ {D : Type 0} (g : Ghosts D) where
     pub told : is_told g c.node.disk ≡ o.told
     pub arms : arms_under g c.node.disk ≡ o.arms
     pub outs : out_rings c.node.outs ≡ out_rings o.cell.node.outs
+    pub places : places_in o.cell.node ≤ places_in c.node
     pub ins : in_rings c.ins ≡ in_rings o.cell.ins
     pub more : (from : ℕ) → length (arrived_from o.cell.ins from) ≤ length (arrived_from c.ins from)
     pub here : (client : ℕ) → is_here c.lines client ≡ is_here o.cell.lines client
