@@ -1,6 +1,5 @@
 pub mod Statuses
 pub mod Sources
-pub mod Texts
 pub mod Words
 pub mod Racks
 pub mod Promises

@@ -15,7 +15,7 @@ use Rattle.walter_words.specs.Words.{AsksFor, IsTextKind}
 use Rattle.walter_words.specs.declared.asked.Command.{Command}
 use Rattle.walter_words.specs.declared.asked.Command.TheVariants.{Play, Run, Load, Say}
 use Rattle.walter_cli.specs.Sources.{IsTaken}
-use Rattle.walter_cli.specs.Texts.{text_of}
+use Rattle.walter_report.specs.Texts.{text_of}
 
 -- the words behind the program's name ask for this run
 abbrev pub Asks : Command → List (String Global) → Type 0

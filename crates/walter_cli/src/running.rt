@@ -9,7 +9,6 @@ ghost use Rattle.walter_stream.specs.Streams.{Appends};
 ghost use Rattle.walter_cli.specs.Ending.{Drives, EndsRun, EndsEarly, HasStepsFor, IsBuilt, IsPlayable, IsWriteFault, fault_of};
 ghost use Rattle.walter_cli.specs.Racks.{rack_at, racked};
 ghost use Rattle.walter_cli.specs.Statuses.{status_of};
-ghost use Rattle.walter_cli.specs.Texts.{text_of};
 ghost use Rattle.walter_cli.specs.Words.{written_by};
 ghost use Rattle.walter_words.specs.Words.{IsText};
 
@@ -23,9 +22,9 @@ use walter_cluster::{Bench, Closed, Unbuilt, build};
 use walter_disk::{Disk, Rack};
 use walter_engine::BeginFault;
 use walter_play::{open_lines, play};
-use walter_report::{report, summary, trace};
+use walter_report::{WriteFault, write_report, write_summary};
 use walter_scenario::Scenario;
-use walter_stream::{BytesSource, NullSink, Sink, write_all};
+use walter_stream::{BytesSource, NullSink, Sink};
 use walter_trail::Trail;
 use walter_words::Command;
 use walter_workers::OpenGate;
@@ -166,42 +165,16 @@ fn write_result<K: Sink>(
     ensures fault { IfErr result (IsWriteFault (written_by command.now scenario.now trails.now)
         (K.holds sink.old) (K.holds sink.new) (K.faults sink.old) (K.faults sink.new)) }
 {
-    let Ok(text) = text(alloc, scenario, command, trails) else {
-        return Err(Fault::Memory);
-    };
-    match write_all(sink, &text) {
-        Ok(()) => Ok(()),
-        Err(_) => Err(Fault::Write),
-    }
-}
-
-// The report of these trails, with the trace behind it where one is asked for; or their summary.
-fn text(alloc: Global, scenario: &Scenario, command: &Command, trails: &[Trail]) -> Mem<Vec<u8>>
-    requires running { ¬ IsText command.now }
-    requires few { length trails.now ≤ most_sites }
-    requires frames { HaveFrames trails.now }
-    requires records { HaveSpellings trails.now }
-    ensures { IfOk result (λ text. text.items ≡ written_by command.now scenario.now trails.now) }
-{
-    match command {
+    let written = match command {
         Command::Play { trace, .. } | Command::Run { trace, .. } => {
-            report_text(alloc, scenario, *trace, trails)
+            write_report(alloc, scenario, *trace, trails, sink)
         }
-        Command::Load { seed, calls } => Ok(summary(alloc, *seed, *calls, trails)?.into_vec()),
+        Command::Load { seed, calls } => write_summary(alloc, *seed, *calls, trails, sink),
         Command::Say(_) => unreachable!(),
+    };
+    match written {
+        Ok(()) => Ok(()),
+        Err(WriteFault::NoMemory) => Err(Fault::Memory),
+        Err(WriteFault::Failed) => Err(Fault::Write),
     }
-}
-
-// The report of these trails, with the trace behind it where one is asked for.
-fn report_text(alloc: Global, scenario: &Scenario, traced: bool, trails: &[Trail]) -> Mem<Vec<u8>>
-    requires few { length trails.now ≤ most_sites }
-    requires frames { HaveFrames trails.now }
-    requires records { HaveSpellings trails.now }
-    ensures { IfOk result (λ text. text.items ≡ text_of traced scenario.now trails.now) }
-{
-    let mut text = report(alloc, scenario, trails)?.into_vec();
-    if traced {
-        text.extend_from_slice(trace(alloc, trails)?.as_slice())?;
-    }
-    Ok(text)
 }

@@ -1,15 +1,44 @@
--- What `join` makes of pieces, as the lists of a report have them.
-use Rattle.std.proofs.Common.{◌≡◌, ℕ, ◌<◌, List, [], ◌∷◌, ◌++◌, length, map, ap, arith}
-use Rattle.std.specs.List.{join_by, join_with_byte}
-use Rattle.std.proofs.lemmas.List.{append-nil}
+-- Lists with commas, as they are put piece by piece.
+use Rattle.std.proofs.Common.{◌≡◌, ℕ, ◌<◌, ◌+◌, Bool, true, false, nat_lt, List, [], ◌∷◌, ◌++◌, length, map, drop, get_or, refl, sym, ap, ◌∙◌, append_assoc, append-nil, arith}
+use Rattle.std.specs.List.{join_with_byte}
+use Rattle.std.proofs.lemmas.Bool.{lt-ltb}
+use Rattle.std.proofs.lemmas.List.{drop_more}
+use Rattle.walter_report.specs.Lists.{comma_behind, has_pieces, list_behind}
 use Rattle.walter_report.specs.Words.{comma, listed}
 
-join_by-byte : {X : Type 0} (c : ℕ) (f : X → List ℕ) (x : X) (xs : List X)
-    → join_by f (c ∷ []) (x ∷ xs) ≡ join_with_byte c (map f (x ∷ xs))
-join_by-byte c f x [] = append-nil (f x)
-join_by-byte c f x (y ∷ ys) = ap (λ t. f x ++ (c ∷ t)) (join_by-byte c f y ys)
+join_behind : (x : List ℕ) (xs : List (List ℕ)) → join_with_byte comma (x ∷ xs) ≡ x ++ list_behind true xs
+join_behind x [] = sym (append-nil x)
+join_behind x (y ∷ ys) = ap (λ t. x ++ comma ∷ t) (join_behind y ys)
 
-pub listed_some : {X : Type 0} (f : X → List ℕ) (xs : List X) → 0 < length xs
-    → join_by f (comma ∷ []) xs ≡ listed (map f xs)
-listed_some f [] some = absurd (omega arith)
-listed_some f (x ∷ xs) some = join_by-byte comma f x xs
+-- pieces of which there are some
+pub listed_behind : (pieces : List (List ℕ)) → 0 < length pieces → listed pieces ≡ list_behind false pieces
+listed_behind [] some = absurd (omega arith)
+listed_behind (x ∷ xs) some = join_behind x xs
+
+-- pieces behind others
+pub list_behind-append : (some : Bool) (xs ys : List (List ℕ))
+    → list_behind some (xs ++ ys) ≡ list_behind some xs ++ list_behind (has_pieces some xs) ys
+list_behind-append some [] ys = refl
+list_behind-append some (x ∷ xs) ys =
+    ap (λ t. (comma_behind some ++ x) ++ t)
+    (list_behind-append true xs ys ∙ ap (λ b. list_behind true xs ++ list_behind b ys) (always xs))
+    ∙ sym (append_assoc (comma_behind some ++ x) (list_behind true xs) (list_behind true ys))
+  where
+    always : (zs : List (List ℕ)) → has_pieces true zs ≡ true
+    always [] = refl
+    always (z ∷ zs) = refl
+
+pub has_pieces-append : (some : Bool) (xs ys : List (List ℕ))
+    → has_pieces some (xs ++ ys) ≡ has_pieces (has_pieces some xs) ys
+has_pieces-append some [] ys = refl
+has_pieces-append some (x ∷ xs) [] = refl
+has_pieces-append some (x ∷ xs) (y ∷ ys) = refl
+
+-- the pieces from one element on
+pub list_behind-next : {X : Type 0} (f : X → List ℕ) (xs : List X) (i : ℕ) (d : X) → i < length xs
+    → list_behind (nat_lt 0 i) (map f (drop i xs))
+    ≡ (comma_behind (nat_lt 0 i) ++ f (get_or xs i d)) ++ list_behind (nat_lt 0 (i + 1)) (map f (drop (i + 1) xs))
+list_behind-next f xs i d within =
+    let some : true ≡ nat_lt 0 (i + 1) = sym (lt-ltb 0 (i + 1) (omega arith)) in
+    ap (λ ys. list_behind (nat_lt 0 i) (map f ys)) (drop_more xs i d within)
+    ∙ ap (λ b. (comma_behind (nat_lt 0 i) ++ f (get_or xs i d)) ++ list_behind b (map f (drop (i + 1) xs))) some

@@ -1,8 +1,13 @@
 pub mod Columned
 pub mod Counted
+pub mod Digits
+pub mod Fitting
+pub mod Going
 pub mod Joined
+pub mod Lined
 pub mod Logged
 pub mod Merged
+pub mod Shown
 pub mod Stands
 pub mod Tallied
 pub mod Telling

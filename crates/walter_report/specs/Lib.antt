@@ -1,8 +1,12 @@
 pub mod Words
 pub mod Adding
+pub mod Lists
 pub mod Sites
 pub mod Reports
-pub mod Tallies
+pub mod Answered
 pub mod Overviews
 pub mod Traces
 pub mod Summaries
+pub mod Texts
+pub mod Pages
+pub mod Parts

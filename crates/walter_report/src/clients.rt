@@ -1,116 +1,86 @@
-ghost use Rattle.std.specs.Prelude.{◌≡◌, ℕ, List, [], ◌∷◌, ◌++◌, length, flat_map, nat_eq, if◌then◌else◌, All, OnOk, IfOk};
-ghost use Rattle.std.specs.String.{string_bytes};
-ghost use Rattle.walter_base.specs.declared.message.Reply.{Reply as Answer};
+ghost use Rattle.std.specs.Prelude.{◌≤◌, length, flat_map, All};
+ghost use Rattle.hex.specs.Hex.{encode_lower};
 ghost use Rattle.walter_reply.specs.Replies.{FitsFrame};
-ghost use Rattle.walter_report.specs.Reports.{reply_in, reply_to, replies_to, HaveFrames, client_line, client_lines};
-ghost use Rattle.walter_report.specs.Tallies.{Has, HaveEach, AddEach};
+ghost use Rattle.walter_report.specs.Answered.{answered_lines};
+ghost use Rattle.walter_report.specs.Pages.{Puts};
+ghost use Rattle.walter_report.specs.Reports.{reply_frame, client_line};
+ghost use Rattle.walter_report.specs.Words.{or_dash};
 
-use crate::tally::Tally;
-use crate::text::text_or_dash;
-use std::alloc::Global;
-use walter_base::{Mem, Reply};
-use walter_rules::{Entry, Event, Input, Outcome};
+use crate::frame::Frame;
+use crate::hexing::put_hex;
+use crate::page::Page;
+use crate::parts::{Part, put_parts};
+use crate::replies::Replies;
+use walter_base::Reply;
 use walter_scenario::Client;
-use walter_trail::Trail;
+use walter_stream::{Failed, Sink};
 
-pub(crate) fn push_client_lines(
-    alloc: Global,
-    text: &mut String,
+// Puts the lines of the clients, each of whom got these replies.
+pub(crate) fn put_client_lines<K: Sink>(
+    page: &mut Page,
+    sink: &mut K,
+    frame: &mut Frame,
     clients: &[Client],
-    trails: &[Trail],
-) -> Mem<()>
-    requires { HaveFrames trails.now }
-    ensures { OnOk result (string_bytes text.new ≡ string_bytes text.old ++ client_lines 0 clients.now trails.now) }
+    answered: &[Replies],
+) -> Result<(), Failed>
+    requires clients { length clients.now ≤ length answered.now }
+    requires frames { All (λ replies. All FitsFrame replies) answered.now }
+    ensures { Puts K.holds K.faults sink.old sink.new page.old page.new
+        (answered_lines 0 clients.now answered.now) result }
 {
-    let tallies = tallies_of(alloc, clients.len(), trails)?;
     for (number, client) in clients.iter().enumerate() {
-        push_client_line(alloc, text, number, client.site.0, &tallies[number])?;
+        put_client_line(page, sink, frame, number, client.site.0, &answered[number])?;
     }
     Ok(())
 }
 
-fn push_client_line(
-    alloc: Global,
-    text: &mut String,
+fn put_client_line<K: Sink>(
+    page: &mut Page,
+    sink: &mut K,
+    frame: &mut Frame,
     number: usize,
     site: u8,
-    tally: &Tally,
-) -> Mem<()>
-    ensures { (replies : List Answer) → Has tally.now replies → OnOk result
-        (string_bytes text.new ≡ string_bytes text.old ++ client_line number site replies) }
+    replies: &Replies,
+) -> Result<(), Failed>
+    requires { All FitsFrame replies.now }
+    ensures { Puts K.holds K.faults sink.old sink.new page.old page.new
+        (client_line number site replies.now) result }
 {
-    let count = tally.count;
-    let frames = hex::encode(alloc, tally.frames.as_slice())?;
-    let frames = text_or_dash(&frames);
-    writeln!(text, "client {number} site {site} replies {count} {frames}")?;
-    Ok(())
+    let replies = replies.as_slice();
+    put_parts(
+        page,
+        sink,
+        &[
+            Part::Word("client "),
+            Part::Number(number as u128),
+            Part::Word(" site "),
+            Part::Number(site as u128),
+            Part::Word(" replies "),
+            Part::Number(replies.len() as u128),
+            Part::Word(" "),
+        ],
+    )?;
+    put_frames(page, sink, frame, replies)?;
+    page.put(sink, b"\n")
 }
 
-// The tally of each of so many clients, from one look at each entry.
-fn tallies_of(alloc: Global, clients: usize, trails: &[Trail]) -> Mem<Vec<Tally>>
-    requires { HaveFrames trails.now }
-    ensures clients { IfOk result (λ tallies. length tallies.items ≡ clients) }
-    ensures replies { IfOk result
-        (λ tallies. HaveEach tallies.items (λ c. flat_map (replies_to c) trails.now)) }
+// Puts the frames of the replies in hex, or a dash.
+fn put_frames<K: Sink>(
+    page: &mut Page,
+    sink: &mut K,
+    frame: &mut Frame,
+    replies: &[&Reply],
+) -> Result<(), Failed>
+    requires { All (λ place. FitsFrame place.now) replies.now }
+    ensures { Puts K.holds K.faults sink.old sink.new page.old page.new
+        (or_dash (encode_lower (flat_map (λ place. reply_frame place.now) replies.now))) result }
 {
-    let mut tallies = no_replies(alloc, clients)?;
-    add_trails(&mut tallies, trails)?;
-    Ok(tallies)
-}
-
-fn no_replies(alloc: Global, clients: usize) -> Mem<Vec<Tally>>
-    ensures clients { IfOk result (λ tallies. length tallies.items ≡ clients) }
-    ensures none { IfOk result (λ tallies. All (λ tally. Has tally []) tallies.items) }
-{
-    let mut tallies = Vec::new(alloc);
-    for _client in 0..clients {
-        tallies.push(Tally::new(alloc))?;
+    if replies.is_empty() {
+        return page.put(sink, b"-");
     }
-    Ok(tallies)
-}
-
-fn add_trails(tallies: &mut [Tally], trails: &[Trail]) -> Mem<()>
-    requires { HaveFrames trails.now }
-    ensures { OnOk result (AddEach tallies.old tallies.new (λ c. flat_map (replies_to c) trails.now)) }
-{
-    for trail in trails {
-        add_trail(tallies, trail.as_slice())?;
-    }
-    Ok(())
-}
-
-fn add_trail(tallies: &mut [Tally], trail: &[Entry]) -> Mem<()>
-    requires { All (λ e. All FitsFrame (reply_in e.came.outcome)) trail.now }
-    ensures { OnOk result (AddEach tallies.old tallies.new (λ c. replies_to c trail.now)) }
-{
-    for entry in trail {
-        add_entry(tallies, entry)?;
+    for reply in replies {
+        frame.write_reply(reply);
+        put_hex(page, sink, frame.as_slice())?;
     }
     Ok(())
-}
-
-fn add_entry(tallies: &mut [Tally], entry: &Entry) -> Mem<()>
-    requires { All FitsFrame (reply_in entry.now.came.outcome) }
-    ensures { OnOk result
-        (AddEach tallies.old tallies.new (λ c. reply_to c entry.now.event entry.now.came.outcome)) }
-{
-    if let Event::Given(Input::Call { client, .. }) = &entry.event
-        && let Outcome::Replied(reply) = &entry.came.outcome
-    {
-        add_reply(tallies, *client as usize, reply)?;
-    }
-    Ok(())
-}
-
-// A client that isn't among them has no tally.
-fn add_reply(tallies: &mut [Tally], client: usize, reply: &Reply) -> Mem<()>
-    requires { FitsFrame reply.now }
-    ensures { OnOk result
-        (AddEach tallies.old tallies.new (λ c. if nat_eq client c then reply.now ∷ [] else [])) }
-{
-    if client >= tallies.len() {
-        return Ok(());
-    }
-    let tally = &mut tallies[client];
-    tally.add(reply)
 }

@@ -1,17 +1,26 @@
-//! The report of a run, and its trace, as text.
+//! The report of a run, its trace, and its summary, as text that is written piece by piece.
 #![tactic(auto)]
 
 mod clients;
 mod columns;
+mod fault;
+mod frame;
+mod hexing;
 mod laws;
+mod lists;
+mod logs;
 mod overview;
+mod page;
+mod parts;
+mod replies;
 mod sites;
 mod summaries;
-mod tally;
 mod text;
+mod told;
 mod traces;
 
+pub use fault::WriteFault;
 pub use laws::as_it_stands;
-pub use summaries::summary;
-pub use text::report;
-pub use traces::{trace, word_of_packet};
+pub use summaries::write_summary;
+pub use text::write_report;
+pub use traces::word_of_packet;

@@ -1,11 +1,8 @@
-ghost use Rattle.std.specs.Prelude.{◌≡◌, ◌≤◌, ◌<◌, ◌+◌, ◌^◌, ◌∷◌, ◌++◌, ℕ, Bool, List, [], Some, false, length, All, OnOk, IfOk};
-ghost use Rattle.std.specs.List.{join_with_byte};
-ghost use Rattle.std.specs.String.{string_bytes};
+ghost use Rattle.std.specs.Prelude.{◌≡◌, ◌≤◌, ◌<◌, ◌+◌, ◌^◌, ◌∷◌, ◌++◌, ℕ, Bool, List, [], Some, false, length, All, IfOk};
 ghost use Rattle.walter_base.specs.declared.message.Record.{Record as Stable};
 ghost use Rattle.walter_base.specs.declared.names.SiteId.{SiteId as Site};
-ghost use Rattle.walter_report.specs.Sites.{record_in, records, is_up, is_got, is_seen, counts, logged, log_pieces, version_text};
-ghost use Rattle.walter_report.specs.Adding.{one_more, followed};
-ghost use Rattle.walter_report.specs.Words.{comma};
+ghost use Rattle.walter_report.specs.Sites.{record_in, records, is_up, is_got, is_seen, counts, logged};
+ghost use Rattle.walter_report.specs.Adding.{one_more};
 ghost use Rattle.walter_rules.specs.Knowledge.{site_at};
 ghost use Rattle.walter_rules.specs.Learning.{epoch_after};
 ghost use Rattle.walter_rules.specs.Standing.{up_after};
@@ -15,7 +12,7 @@ use walter_base::{MaybeRecord, Mem, Record, Reply};
 use walter_rules::{Entry, Event, Outcome};
 
 // What the line of a site tells. For each site of the catalog, `got` has how many of that site's commits this one has,
-// and `seen` how many of them are committed here; its own count in both. The log is text, of so many commits.
+// and `seen` how many of them are committed here; its own count in both. The log has so many commits.
 #[derive(Drop)]
 pub(crate) struct Overview {
     pub up: bool,
@@ -23,7 +20,6 @@ pub(crate) struct Overview {
     pub records: usize,
     pub got: Vec<usize>,
     pub seen: Vec<usize>,
-    pub log: String,
     pub commits: usize,
     ghost got_few: { All (λ n. n ≤ records) got.items },
     ghost seen_few: { All (λ n. n ≤ records) seen.items },
@@ -39,7 +35,7 @@ impl Overview {
     {
         let mut overview = Overview::nothing(alloc, sites)?;
         for entry in trail {
-            overview.add_entry(site, entry)?;
+            overview.add_entry(site, entry);
         }
         Ok(overview)
     }
@@ -54,38 +50,36 @@ impl Overview {
             records: 0,
             got: vec![in alloc; 0; sites]?,
             seen: vec![in alloc; 0; sites]?,
-            log: String::new(alloc),
             commits: 0,
         })
     }
 
-    fn add_entry(&mut self, site: usize, entry: &Entry) -> Mem<()>
+    fn add_entry(&mut self, site: usize, entry: &Entry)
         requires { self.old.records + 2 < 2 ^ 64 }
         ensures { (sites : ℕ) (up : Bool) (recs : List Stable) → Tells self.old sites (site_at site) up recs
-            → OnOk result (Tells self.new sites (site_at site) (up_after entry.now.event entry.now.came.outcome up)
-            (recs ++ (record_in entry.now.came.kept ++ record_in entry.now.came.wrote))) }
+            → Tells self.new sites (site_at site) (up_after entry.now.event entry.now.came.outcome up)
+            (recs ++ (record_in entry.now.came.kept ++ record_in entry.now.came.wrote)) }
     {
         self.up = up_behind(&entry.event, &entry.came.outcome, self.up);
-        self.add_stable(site, &entry.came.kept)?;
-        self.add_stable(site, &entry.came.wrote)
+        self.add_stable(site, &entry.came.kept);
+        self.add_stable(site, &entry.came.wrote);
     }
 
-    fn add_stable(&mut self, site: usize, stable: &MaybeRecord) -> Mem<()>
+    fn add_stable(&mut self, site: usize, stable: &MaybeRecord)
         requires { self.old.records + 1 < 2 ^ 64 }
         ensures tells { (sites : ℕ) (up : Bool) (recs : List Stable) → Tells self.old sites (site_at site) up recs
-            → OnOk result (Tells self.new sites (site_at site) up (recs ++ record_in stable.now)) }
+            → Tells self.new sites (site_at site) up (recs ++ record_in stable.now) }
         ensures counted { self.new.records ≤ self.old.records + 1 }
     {
-        match stable.as_ref() {
-            Some(record) => self.add_record(site, record),
-            None => Ok(()),
+        if let Some(record) = stable.as_ref() {
+            self.add_record(site, record);
         }
     }
 
-    fn add_record(&mut self, site: usize, stable: &Record) -> Mem<()>
+    fn add_record(&mut self, site: usize, stable: &Record)
         requires { self.old.records + 1 < 2 ^ 64 }
         ensures tells { (sites : ℕ) (up : Bool) (recs : List Stable) → Tells self.old sites (site_at site) up recs
-            → OnOk result (Tells self.new sites (site_at site) up (recs ++ stable.now ∷ [])) }
+            → Tells self.new sites (site_at site) up (recs ++ stable.now ∷ []) }
         ensures counted { self.new.records ≤ self.old.records + 1 }
     {
         count_got(&mut self.got, site, stable);
@@ -93,7 +87,6 @@ impl Overview {
         self.records += 1;
         self.commits += commits_in(stable);
         self.epoch = epoch_behind(stable, self.epoch);
-        push_logged(&mut self.log, site, stable)
     }
 }
 
@@ -168,26 +161,4 @@ fn count_one(counts: &mut [usize], site: usize)
     if site < counts.len() {
         counts[site] += 1;
     }
-}
-
-// Puts the commit at the end of the log that the record tells to be committed, if there is one.
-fn push_logged(log: &mut String, site: usize, stable: &Record) -> Mem<()>
-    ensures { (recs : List Stable) → string_bytes log.old ≡ join_with_byte comma (log_pieces (site_at site) recs)
-        → OnOk result (string_bytes log.new
-        ≡ join_with_byte comma (log_pieces (site_at site) (recs ++ stable.now ∷ []))) }
-{
-    match stable {
-        Record::Own(seq, _) => push_version(log, site, *seq),
-        Record::Seen(from, seq) => push_version(log, usize::from(from.0), *seq),
-        _ => Ok(()),
-    }
-}
-
-fn push_version(log: &mut String, site: usize, seq: u64) -> Mem<()>
-    ensures { OnOk result
-        (string_bytes log.new ≡ followed (string_bytes log.old) (version_text (site_at site) seq)) }
-{
-    let comma = if log.is_empty() { "" } else { "," };
-    write!(log, "{comma}{site}:{seq}")?;
-    Ok(())
 }

@@ -1,100 +1,91 @@
-ghost use Rattle.std.specs.Prelude.{◌≡◌, ◌++◌, ◌∷◌, [], ℕ, Bool, List, map, OnOk, IfOk};
-ghost use Rattle.std.specs.Fmt.{decimal};
-ghost use Rattle.std.specs.String.{string_bytes};
-ghost use Rattle.walter_base.specs.declared.message.Record.{Record};
-ghost use Rattle.walter_base.specs.declared.names.SiteId.{SiteId};
-ghost use Rattle.walter_report.specs.Sites.{records, is_up, events_part, lists_part, commits_part, site_line, site_lines};
-ghost use Rattle.walter_report.specs.Overviews.{Tells};
-ghost use Rattle.walter_report.specs.Words.{listed};
+ghost use Rattle.std.specs.Prelude.{◌≡◌, length};
+ghost use Rattle.walter_report.specs.Overviews.{Tells, TellEach};
+ghost use Rattle.walter_report.specs.Pages.{Puts};
+ghost use Rattle.walter_report.specs.Sites.{records, is_up, events_part, commits_part, site_line, site_lines};
 ghost use Rattle.walter_rules.specs.Knowledge.{site_at};
 
+use crate::lists::put_counts;
+use crate::logs::put_log;
 use crate::overview::Overview;
-use crate::text::{list_of, text_or_dash};
-use std::alloc::Global;
-use walter_base::Mem;
+use crate::page::Page;
+use crate::parts::{Part, put_parts};
 use walter_rules::Entry;
+use walter_stream::{Failed, Sink};
 use walter_trail::Trail;
 
-pub(crate) fn push_site_lines(
-    alloc: Global,
-    text: &mut String,
+// Puts the lines of the sites, of each of which this is told.
+pub(crate) fn put_site_lines<K: Sink>(
+    page: &mut Page,
+    sink: &mut K,
     sites: u8,
     trails: &[Trail],
-) -> Mem<()>
-    ensures { OnOk result (string_bytes text.new ≡ string_bytes text.old ++ site_lines sites 0 trails.now) }
+    overviews: &[Overview],
+) -> Result<(), Failed>
+    requires { TellEach overviews.now sites trails.now }
+    ensures { Puts K.holds K.faults sink.old sink.new page.old page.new (site_lines sites 0 trails.now) result }
 {
     for (site, trail) in trails.iter().enumerate() {
-        push_site_line(alloc, text, sites, site, trail.as_slice())?;
+        put_site_line(page, sink, site, trail.as_slice(), &overviews[site])?;
     }
     Ok(())
 }
 
-fn push_site_line(
-    alloc: Global,
-    text: &mut String,
-    sites: u8,
-    site: usize,
-    trail: &[Entry],
-) -> Mem<()>
-    ensures { OnOk result (string_bytes text.new ≡ string_bytes text.old ++ site_line sites site trail.now) }
-{
-    let overview = Overview::from_trail(alloc, sites, site, trail)?;
-    push_events(text, site, trail, &overview)?;
-    push_commits(alloc, text, &overview)
-}
-
-pub(crate) fn push_events(
-    text: &mut String,
+fn put_site_line<K: Sink>(
+    page: &mut Page,
+    sink: &mut K,
     site: usize,
     trail: &[Entry],
     overview: &Overview,
-) -> Mem<()>
-    ensures { (sites : ℕ) → Tells overview.now sites (site_at site) (is_up trail.now) (records trail.now)
-        → OnOk result (string_bytes text.new ≡ string_bytes text.old ++ events_part site trail.now) }
+) -> Result<(), Failed>
+    requires { Tells overview.now (length overview.now.got.items) (site_at site) (is_up trail.now) (records trail.now) }
+    ensures { Puts K.holds K.faults sink.old sink.new page.old page.new
+        (site_line (length overview.now.got.items) site trail.now) result }
 {
-    let up = if overview.up { "up" } else { "down" };
-    let epoch = overview.epoch;
-    let events = trail.len();
-    let records = overview.records;
-    write!(
-        text,
-        "site {site} {up} epoch {epoch} events {events} records {records}"
-    )?;
-    Ok(())
+    put_events(page, sink, site, trail, overview)?;
+    put_commits(page, sink, site, trail, overview)
 }
 
-fn push_commits(alloc: Global, text: &mut String, overview: &Overview) -> Mem<()>
-    ensures { (sites : ℕ) (i : SiteId) (up : Bool) (recs : List Record) → Tells overview.now sites i up recs
-        → OnOk result (string_bytes text.new ≡ string_bytes text.old ++ commits_part sites i recs) }
+pub(crate) fn put_events<K: Sink>(
+    page: &mut Page,
+    sink: &mut K,
+    site: usize,
+    trail: &[Entry],
+    overview: &Overview,
+) -> Result<(), Failed>
+    requires { Tells overview.now (length overview.now.got.items) (site_at site) (is_up trail.now) (records trail.now) }
+    ensures { Puts K.holds K.faults sink.old sink.new page.old page.new (events_part site trail.now) result }
 {
-    let got = text_of_counts(alloc, overview.got.as_slice())?;
-    let committed = text_of_counts(alloc, overview.seen.as_slice())?;
-    let log = text_or_dash(&overview.log);
-    push_lists(text, &got, &committed, log)
+    put_parts(
+        page,
+        sink,
+        &[
+            Part::Word("site "),
+            Part::Number(site as u128),
+            Part::Word(" "),
+            Part::Word(if overview.up { "up" } else { "down" }),
+            Part::Word(" epoch "),
+            Part::Number(overview.epoch as u128),
+            Part::Word(" events "),
+            Part::Number(trail.len() as u128),
+            Part::Word(" records "),
+            Part::Number(overview.records as u128),
+        ],
+    )
 }
 
-fn push_lists(text: &mut String, got: &str, committed: &str, log: &str) -> Mem<()>
-    ensures { OnOk result
-        (string_bytes text.new ≡ string_bytes text.old ++ lists_part got.now committed.now log.now) }
+fn put_commits<K: Sink>(
+    page: &mut Page,
+    sink: &mut K,
+    site: usize,
+    trail: &[Entry],
+    overview: &Overview,
+) -> Result<(), Failed>
+    requires { Tells overview.now (length overview.now.got.items) (site_at site) (is_up trail.now) (records trail.now) }
+    ensures { Puts K.holds K.faults sink.old sink.new page.old page.new
+        (commits_part (length overview.now.got.items) (site_at site) (records trail.now)) result }
 {
-    writeln!(text, " got {got} committed {committed} log {log}")?;
-    Ok(())
-}
-
-fn text_of_counts(alloc: Global, counts: &[usize]) -> Mem<String>
-    ensures { IfOk result (λ text. string_bytes text ≡ listed (map decimal counts.now)) }
-{
-    let mut pieces = Vec::new(alloc);
-    for count in counts {
-        push_count(alloc, &mut pieces, *count)?;
-    }
-    list_of(alloc, &pieces)
-}
-
-fn push_count(alloc: Global, pieces: &mut Vec<String>, count: usize) -> Mem<()>
-    ensures { OnOk result
-        (map string_bytes pieces.new.items ≡ map string_bytes pieces.old.items ++ decimal count ∷ []) }
-{
-    pieces.push(format!(in alloc; "{count}")?)?;
-    Ok(())
+    put_counts(page, sink, " got ", overview.got.as_slice())?;
+    put_counts(page, sink, " committed ", overview.seen.as_slice())?;
+    put_log(page, sink, site, trail, overview.commits)?;
+    page.put(sink, b"\n")
 }

@@ -1,94 +1,148 @@
-ghost use Rattle.std.specs.Prelude.{◌≡◌, ◌++◌, ℕ, Bool, List, length, OnOk, IfOk};
-ghost use Rattle.std.specs.String.{string_bytes};
-ghost use Rattle.walter_base.specs.declared.message.Record.{Record};
-ghost use Rattle.walter_base.specs.declared.names.SiteId.{SiteId};
-ghost use Rattle.walter_report.specs.Overviews.{Tells};
-ghost use Rattle.walter_report.specs.Sites.{log_pieces};
-ghost use Rattle.walter_report.specs.Summaries.{all_replies, load_line, column_part, columns_part, replies_line, count_part, count_line, count_lines, summary_text};
+ghost use Rattle.std.specs.Prelude.{◌≡◌, ◌≤◌, length, OnOk, IfErr};
+ghost use Rattle.walter_report.specs.Overviews.{Tells, TellEach};
+ghost use Rattle.walter_report.specs.Pages.{Puts};
+ghost use Rattle.walter_report.specs.Sites.{is_up, records};
+ghost use Rattle.walter_report.specs.Summaries.{all_replies, load_line, columns_part, replies_line, count_line, count_lines, summary_text};
+ghost use Rattle.walter_report.specs.Texts.{IsUnwritten};
+ghost use Rattle.walter_rules.specs.Knowledge.{site_at};
+ghost use Rattle.walter_stream.specs.Streams.{Appends};
 
 use crate::columns::{COLUMNS, count_replies};
+use crate::fault::WriteFault;
 use crate::overview::Overview;
-use crate::sites::push_events;
+use crate::page::Page;
+use crate::parts::{Part, put_parts};
+use crate::sites::put_events;
+use crate::told::overviews_of;
 use std::alloc::Global;
-use walter_base::{Bytes, Mem};
 use walter_rules::Entry;
+use walter_stream::{Failed, Sink};
 use walter_trail::Trail;
 
-/// The summary of a load: the number that it was made of, how many calls it has, and the text of its trails, one for
-/// each site.
-pub fn summary(alloc: Global, number: u64, calls: u32, trails: &[Trail]) -> Mem<Bytes>
-    ensures { IfOk result (λ text. text ≡ summary_text number calls trails.now) }
+/// Writes the summary of a load: the number that it was made of, how many calls it has, and the replies and the sites by
+/// its trails, one for each site. All memory is taken before the first byte is written.
+pub fn write_summary<K: Sink>(
+    alloc: Global,
+    number: u64,
+    calls: u32,
+    trails: &[Trail],
+    sink: &mut K,
+) -> Result<(), WriteFault>
+    ensures ok { OnOk result
+        (Appends (K.holds sink.old) (K.holds sink.new) (summary_text number calls trails.now)) }
+    ensures faultless { OnOk result (K.faults sink.new ≡ K.faults sink.old) }
+    ensures fault { IfErr result (IsUnwritten (summary_text number calls trails.now)
+        (K.holds sink.old) (K.holds sink.new) (K.faults sink.old) (K.faults sink.new)) }
 {
-    let mut text = String::new(alloc);
-    push_load_line(&mut text, number, calls)?;
-    push_replies_line(&mut text, trails)?;
-    push_count_lines(alloc, &mut text, trails)?;
-    Ok(Bytes::from(text.into_bytes()))
-}
-
-fn push_load_line(text: &mut String, number: u64, calls: u32) -> Mem<()>
-    ensures { OnOk result (string_bytes text.new ≡ string_bytes text.old ++ load_line number calls) }
-{
-    writeln!(text, "load seed {number} calls {calls}")?;
+    // No commits are counted by site: what is told is that of a catalog without sites.
+    let overviews = overviews_of(alloc, 0, trails)?;
+    let mut page = Page::new(alloc)?;
+    put_load_line(&mut page, sink, number, calls)?;
+    put_replies_line(&mut page, sink, trails)?;
+    put_count_lines(&mut page, sink, trails, &overviews)?;
+    page.flush(sink)?;
     Ok(())
 }
 
-fn push_replies_line(text: &mut String, trails: &[Trail]) -> Mem<()>
-    ensures { OnOk result
-        (string_bytes text.new ≡ string_bytes text.old ++ replies_line (all_replies trails.now)) }
+fn put_load_line<K: Sink>(
+    page: &mut Page,
+    sink: &mut K,
+    number: u64,
+    calls: u32,
+) -> Result<(), Failed>
+    ensures { Puts K.holds K.faults sink.old sink.new page.old page.new (load_line number calls) result }
+{
+    put_parts(
+        page,
+        sink,
+        &[
+            Part::Word("load seed "),
+            Part::Number(number as u128),
+            Part::Word(" calls "),
+            Part::Number(calls as u128),
+            Part::Word("\n"),
+        ],
+    )
+}
+
+fn put_replies_line<K: Sink>(page: &mut Page, sink: &mut K, trails: &[Trail]) -> Result<(), Failed>
+    ensures { Puts K.holds K.faults sink.old sink.new page.old page.new
+        (replies_line (all_replies trails.now)) result }
 {
     let counts = count_replies(trails);
-    text.push_str("replies")?;
-    push_columns(text, &counts)?;
-    text.push_str("\n")?;
-    Ok(())
+    page.put(sink, b"replies")?;
+    put_columns(page, sink, &counts)?;
+    page.put(sink, b"\n")
 }
 
-fn push_columns(text: &mut String, counts: &[u128; COLUMNS]) -> Mem<()>
-    ensures { OnOk result (string_bytes text.new ≡ string_bytes text.old ++ columns_part counts.now) }
+fn put_columns<K: Sink>(
+    page: &mut Page,
+    sink: &mut K,
+    counts: &[u128; COLUMNS],
+) -> Result<(), Failed>
+    ensures { Puts K.holds K.faults sink.old sink.new page.old page.new (columns_part counts.now) result }
 {
-    push_column(text, "started", counts[0])?;
-    push_column(text, "ended", counts[1])?;
-    push_column(text, "done", counts[2])?;
-    push_column(text, "read", counts[3])?;
-    push_column(text, "committed", counts[4])?;
-    push_column(text, "aborted", counts[5])?;
-    push_column(text, "deciding", counts[6])?;
-    push_column(text, "level", counts[7])?;
-    push_column(text, "unsure", counts[8])?;
-    push_column(text, "refused", counts[9])
+    put_parts(
+        page,
+        sink,
+        &[
+            Part::Word(" started "),
+            Part::Number(counts[0]),
+            Part::Word(" ended "),
+            Part::Number(counts[1]),
+            Part::Word(" done "),
+            Part::Number(counts[2]),
+            Part::Word(" read "),
+            Part::Number(counts[3]),
+            Part::Word(" committed "),
+            Part::Number(counts[4]),
+            Part::Word(" aborted "),
+            Part::Number(counts[5]),
+            Part::Word(" deciding "),
+            Part::Number(counts[6]),
+            Part::Word(" level "),
+            Part::Number(counts[7]),
+            Part::Word(" unsure "),
+            Part::Number(counts[8]),
+            Part::Word(" refused "),
+            Part::Number(counts[9]),
+        ],
+    )
 }
 
-fn push_column(text: &mut String, word: &str, count: u128) -> Mem<()>
-    ensures { OnOk result (string_bytes text.new ≡ string_bytes text.old ++ column_part word.now count) }
-{
-    write!(text, " {word} {count}")?;
-    Ok(())
-}
-
-fn push_count_lines(alloc: Global, text: &mut String, trails: &[Trail]) -> Mem<()>
-    ensures { OnOk result (string_bytes text.new ≡ string_bytes text.old ++ count_lines 0 trails.now) }
+fn put_count_lines<K: Sink>(
+    page: &mut Page,
+    sink: &mut K,
+    trails: &[Trail],
+    overviews: &[Overview],
+) -> Result<(), Failed>
+    requires { TellEach overviews.now 0 trails.now }
+    ensures { Puts K.holds K.faults sink.old sink.new page.old page.new (count_lines 0 trails.now) result }
 {
     for (site, trail) in trails.iter().enumerate() {
-        push_count_line(alloc, text, site, trail.as_slice())?;
+        put_count_line(page, sink, site, trail.as_slice(), &overviews[site])?;
     }
     Ok(())
 }
 
-// No commits are counted by site: the overview is made as that of a catalog without sites.
-fn push_count_line(alloc: Global, text: &mut String, site: usize, trail: &[Entry]) -> Mem<()>
-    ensures { OnOk result (string_bytes text.new ≡ string_bytes text.old ++ count_line site trail.now) }
+fn put_count_line<K: Sink>(
+    page: &mut Page,
+    sink: &mut K,
+    site: usize,
+    trail: &[Entry],
+    overview: &Overview,
+) -> Result<(), Failed>
+    requires { Tells overview.now (length overview.now.got.items) (site_at site) (is_up trail.now) (records trail.now) }
+    ensures { Puts K.holds K.faults sink.old sink.new page.old page.new (count_line site trail.now) result }
 {
-    let overview = Overview::from_trail(alloc, 0, site, trail)?;
-    push_events(text, site, trail, &overview)?;
-    push_count(text, &overview)
-}
-
-fn push_count(text: &mut String, overview: &Overview) -> Mem<()>
-    ensures { (sites : ℕ) (i : SiteId) (up : Bool) (recs : List Record) → Tells overview.now sites i up recs
-        → OnOk result (string_bytes text.new ≡ string_bytes text.old ++ count_part (length (log_pieces i recs))) }
-{
-    let commits = overview.commits;
-    writeln!(text, " log {commits}")?;
-    Ok(())
+    put_events(page, sink, site, trail, overview)?;
+    put_parts(
+        page,
+        sink,
+        &[
+            Part::Word(" log "),
+            Part::Number(overview.commits as u128),
+            Part::Word("\n"),
+        ],
+    )
 }

@@ -1,50 +1,103 @@
-ghost use Rattle.std.specs.Prelude.{◌≡◌, ◌++◌, map, OnOk, IfOk};
-ghost use Rattle.std.specs.String.{string_bytes};
-ghost use Rattle.walter_report.specs.Reports.{HaveFrames, first_line, report_text};
-ghost use Rattle.walter_report.specs.Words.{listed, or_dash};
+ghost use Rattle.std.specs.Prelude.{◌≡◌, ◌≤◌, length, flat_map, All, OnOk, IfErr};
+ghost use Rattle.walter_base.specs.Vectors.{most_sites};
+ghost use Rattle.walter_reply.specs.Replies.{FitsFrame};
+ghost use Rattle.walter_report.specs.Answered.{HaveEach};
+ghost use Rattle.walter_report.specs.Overviews.{TellEach};
+ghost use Rattle.walter_report.specs.Pages.{Puts};
+ghost use Rattle.walter_report.specs.Reports.{HaveFrames, first_line, replies_to, report_text};
+ghost use Rattle.walter_report.specs.Texts.{IsUnwritten, shown_of, text_of};
+ghost use Rattle.walter_report.specs.Traces.{HaveSpellings};
+ghost use Rattle.walter_stream.specs.Streams.{Appends};
 
-use crate::clients::push_client_lines;
-use crate::sites::push_site_lines;
+use crate::clients::put_client_lines;
+use crate::fault::WriteFault;
+use crate::frame::Frame;
+use crate::overview::Overview;
+use crate::page::Page;
+use crate::parts::{Part, put_parts};
+use crate::replies::{Replies, replies_of};
+use crate::sites::put_site_lines;
+use crate::told::overviews_of;
+use crate::traces::put_lines;
 use std::alloc::Global;
-use walter_base::{Bytes, Mem};
 use walter_scenario::Scenario;
-use walter_trail::Trail;
+use walter_stream::{Failed, Sink};
+use walter_trail::{Trail, merge};
 
-/// The report of a run: the text of its trails, one for each site.
-pub fn report(alloc: Global, scenario: &Scenario, trails: &[Trail]) -> Mem<Bytes>
-    requires { HaveFrames trails.now }
-    ensures { IfOk result (λ text. text ≡ report_text scenario.now trails.now) }
+/// Writes the report of a run, by its trails, one for each site; and, where it is to be traced, the trace behind it, the
+/// text of the merge of the trails. All memory is taken before the first byte is written, and the text is never held.
+pub fn write_report<K: Sink>(
+    alloc: Global,
+    scenario: &Scenario,
+    traced: bool,
+    trails: &[Trail],
+    sink: &mut K,
+) -> Result<(), WriteFault>
+    requires few { length trails.now ≤ most_sites }
+    requires frames { HaveFrames trails.now }
+    requires records { HaveSpellings trails.now }
+    ensures ok { OnOk result
+        (Appends (K.holds sink.old) (K.holds sink.new) (text_of traced scenario.now trails.now)) }
+    ensures faultless { OnOk result (K.faults sink.new ≡ K.faults sink.old) }
+    ensures fault { IfErr result (IsUnwritten (text_of traced scenario.now trails.now)
+        (K.holds sink.old) (K.holds sink.new) (K.faults sink.old) (K.faults sink.new)) }
 {
-    let mut text = String::new(alloc);
-    push_first_line(&mut text, scenario)?;
-    push_client_lines(alloc, &mut text, scenario.clients.as_slice(), trails)?;
-    push_site_lines(alloc, &mut text, scenario.catalog.sites, trails)?;
-    Ok(Bytes::from(text.into_bytes()))
-}
-
-fn push_first_line(text: &mut String, scenario: &Scenario) -> Mem<()>
-    ensures { OnOk result (string_bytes text.new ≡ string_bytes text.old ++ first_line scenario.now) }
-{
-    let sites = scenario.catalog.sites;
-    let tolerated = scenario.catalog.tolerated;
     let clients = scenario.clients.as_slice().len();
-    writeln!(text, "sites {sites} f {tolerated} clients {clients}")?;
+    let answered = replies_of(alloc, clients, trails)?;
+    let overviews = overviews_of(alloc, scenario.catalog.sites, trails)?;
+    let merged = merge(alloc, shown(traced, trails))?;
+    let mut frame = Frame::new(alloc)?;
+    let mut page = Page::new(alloc)?;
+    put_report(
+        &mut page, sink, &mut frame, scenario, trails, &answered, &overviews,
+    )?;
+    put_lines(&mut page, sink, &mut frame, merged.as_slice())?;
+    page.flush(sink)?;
     Ok(())
 }
 
-pub(crate) fn text_or_dash(text: &str) -> &str
-    ensures { result.now ≡ or_dash text.now }
+// The trails whose entries are to be told one by one: all, or none.
+fn shown(traced: bool, trails: &[Trail]) -> &[Trail]
+    ensures { result.now ≡ shown_of traced trails.now }
 {
-    if text.is_empty() { "-" } else { text }
+    if traced { trails } else { &[] }
 }
 
-// The pieces with a comma between each two, or a dash.
-pub(crate) fn list_of(alloc: Global, pieces: &[String]) -> Mem<String>
-    ensures { IfOk result (λ text. string_bytes text ≡ listed (map string_bytes pieces.now)) }
+fn put_report<K: Sink>(
+    page: &mut Page,
+    sink: &mut K,
+    frame: &mut Frame,
+    scenario: &Scenario,
+    trails: &[Trail],
+    answered: &[Replies],
+    overviews: &[Overview],
+) -> Result<(), Failed>
+    requires frames { HaveFrames trails.now }
+    requires clients { length answered.now ≡ length scenario.now.clients }
+    requires replies { HaveEach answered.now (λ c. flat_map (replies_to c) trails.now) }
+    requires told { TellEach overviews.now scenario.now.catalog.sites trails.now }
+    ensures { Puts K.holds K.faults sink.old sink.new page.old page.new
+        (report_text scenario.now trails.now) result }
 {
-    if pieces.is_empty() {
-        Ok(format!(in alloc; "-")?)
-    } else {
-        Ok(pieces.join(alloc, ",")?)
-    }
+    put_first_line(page, sink, scenario)?;
+    put_client_lines(page, sink, frame, scenario.clients.as_slice(), answered)?;
+    put_site_lines(page, sink, scenario.catalog.sites, trails, overviews)
+}
+
+fn put_first_line<K: Sink>(page: &mut Page, sink: &mut K, scenario: &Scenario) -> Result<(), Failed>
+    ensures { Puts K.holds K.faults sink.old sink.new page.old page.new (first_line scenario.now) result }
+{
+    put_parts(
+        page,
+        sink,
+        &[
+            Part::Word("sites "),
+            Part::Number(scenario.catalog.sites as u128),
+            Part::Word(" f "),
+            Part::Number(scenario.catalog.tolerated as u128),
+            Part::Word(" clients "),
+            Part::Number(scenario.clients.as_slice().len() as u128),
+            Part::Word("\n"),
+        ],
+    )
 }

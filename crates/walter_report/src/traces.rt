@@ -1,104 +1,165 @@
-ghost use Rattle.std.specs.Prelude.{◌≡◌, ◌≤◌, ◌++◌, ◌∷◌, [], length, map, flat_map, codes, All, IfSome, OnOk, IfOk};
-ghost use Rattle.std.specs.Fmt.{decimal};
-ghost use Rattle.std.specs.String.{string_bytes};
+ghost use Rattle.std.specs.Prelude.{◌≡◌, ◌++◌, ◌∷◌, [], flat_map, codes, All, IfSome};
 ghost use Rattle.walter_base.specs.Sizes.{CanBeRecorded};
 ghost use Rattle.walter_reply.specs.Replies.{FitsFrame};
-ghost use Rattle.walter_report.specs.Reports.{reply_in, HaveFrames};
-ghost use Rattle.walter_report.specs.Traces.{HasSpellings, HaveSpellings, call_word, packet_word, input_text, event_text, outcome_text, record_text, send_text, sends_text, happened_part, records_part, sends_part, trace_line, trace_text};
-ghost use Rattle.walter_base.specs.Vectors.{most_sites};
+ghost use Rattle.walter_report.specs.Lists.{list_behind};
+ghost use Rattle.walter_report.specs.Pages.{Puts};
+ghost use Rattle.walter_report.specs.Reports.{reply_in};
+ghost use Rattle.walter_report.specs.Traces.{HasSpellings, call_word, packet_word, input_text, event_text, outcome_text, record_text, send_text, sends_text, happened_part, records_part, sends_part, trace_line};
 
-use crate::tally::push_reply;
-use crate::text::list_of;
-use std::alloc::Global;
-use walter_base::{Bytes, Call, MaybeRecord, Mem, Packet, Reply, Request, SiteId};
-use walter_record::encode;
+use crate::frame::Frame;
+use crate::lists::comma_behind;
+use crate::page::Page;
+use crate::parts::{Part, put_parts};
+use walter_base::{Call, MaybeRecord, Packet, Request, SiteId};
 use walter_rules::{Came, Entry, Event, Input, Outcome};
-use walter_trail::{Trail, merge};
+use walter_stream::{Failed, Sink};
 
-/// The trace of a run: the text of the merge of its trails, one for each site.
-pub fn trace(alloc: Global, trails: &[Trail]) -> Mem<Bytes>
-    requires few { length trails.now ≤ most_sites }
-    requires frames { HaveFrames trails.now }
-    requires records { HaveSpellings trails.now }
-    ensures { IfOk result (λ text. text ≡ trace_text trails.now) }
-{
-    let merged = merge(alloc, trails)?;
-    let mut text = String::new(alloc);
-    push_lines(alloc, &mut text, merged.as_slice())?;
-    Ok(Bytes::from(text.into_bytes()))
-}
-
-fn push_lines(alloc: Global, text: &mut String, entries: &[(SiteId, Entry)]) -> Mem<()>
+// Puts a line for each of the entries.
+pub(crate) fn put_lines<K: Sink>(
+    page: &mut Page,
+    sink: &mut K,
+    frame: &mut Frame,
+    entries: &[(SiteId, Entry)],
+) -> Result<(), Failed>
     requires frames { All (λ n. All FitsFrame (reply_in n.1.came.outcome)) entries.now }
     requires records { All (λ n. HasSpellings n.1) entries.now }
-    ensures { OnOk result (string_bytes text.new ≡ string_bytes text.old ++ flat_map trace_line entries.now) }
+    ensures { Puts K.holds K.faults sink.old sink.new page.old page.new (flat_map trace_line entries.now) result }
 {
     for (site, entry) in entries {
-        push_line(alloc, text, *site, entry)?;
+        put_line(page, sink, frame, *site, entry)?;
     }
     Ok(())
 }
 
-fn push_line(alloc: Global, text: &mut String, site: SiteId, entry: &Entry) -> Mem<()>
+fn put_line<K: Sink>(
+    page: &mut Page,
+    sink: &mut K,
+    frame: &mut Frame,
+    site: SiteId,
+    entry: &Entry,
+) -> Result<(), Failed>
     requires frames { All FitsFrame (reply_in entry.now.came.outcome) }
     requires records { HasSpellings entry.now }
-    ensures { OnOk result (string_bytes text.new ≡ string_bytes text.old ++ trace_line (site, entry.now)) }
+    ensures { Puts K.holds K.faults sink.old sink.new page.old page.new (trace_line (site, entry.now)) result }
 {
-    push_happened(alloc, text, site, entry)?;
-    push_records(alloc, text, entry)?;
-    push_sends(alloc, text, &entry.came)
+    put_happened(page, sink, frame, site, entry)?;
+    put_records(page, sink, frame, entry)?;
+    put_sends(page, sink, &entry.came)
 }
 
-fn push_happened(alloc: Global, text: &mut String, site: SiteId, entry: &Entry) -> Mem<()>
+fn put_happened<K: Sink>(
+    page: &mut Page,
+    sink: &mut K,
+    frame: &mut Frame,
+    site: SiteId,
+    entry: &Entry,
+) -> Result<(), Failed>
     requires { All FitsFrame (reply_in entry.now.came.outcome) }
-    ensures { OnOk result (string_bytes text.new ≡ string_bytes text.old ++ happened_part (site, entry.now)) }
+    ensures { Puts K.holds K.faults sink.old sink.new page.old page.new (happened_part (site, entry.now)) result }
 {
-    let stamp = entry.stamp;
-    let site = site.0;
-    let event = text_of_event(alloc, &entry.event)?;
-    let outcome = text_of_outcome(alloc, &entry.came.outcome)?;
-    write!(text, "e {stamp} {site} {event} {outcome}")?;
-    Ok(())
+    put_parts(
+        page,
+        sink,
+        &[
+            Part::Word("e "),
+            Part::Number(entry.stamp as u128),
+            Part::Word(" "),
+            Part::Number(site.0 as u128),
+            Part::Word(" "),
+        ],
+    )?;
+    put_event(page, sink, &entry.event)?;
+    page.put(sink, b" ")?;
+    put_outcome(page, sink, frame, &entry.came.outcome)
 }
 
-fn push_records(alloc: Global, text: &mut String, entry: &Entry) -> Mem<()>
+fn put_records<K: Sink>(
+    page: &mut Page,
+    sink: &mut K,
+    frame: &mut Frame,
+    entry: &Entry,
+) -> Result<(), Failed>
     requires { HasSpellings entry.now }
-    ensures { OnOk result (string_bytes text.new ≡ string_bytes text.old ++ records_part entry.now.came) }
+    ensures { Puts K.holds K.faults sink.old sink.new page.old page.new (records_part entry.now.came) result }
 {
-    let kept = text_of_record(alloc, &entry.came.kept)?;
-    let wrote = text_of_record(alloc, &entry.came.wrote)?;
-    let flight = text_of_record(alloc, &entry.came.flight)?;
-    write!(text, " {kept} {wrote} {flight}")?;
-    Ok(())
+    put_record(page, sink, frame, &entry.came.kept)?;
+    put_record(page, sink, frame, &entry.came.wrote)?;
+    put_record(page, sink, frame, &entry.came.flight)
 }
 
-fn push_sends(alloc: Global, text: &mut String, came: &Came) -> Mem<()>
-    ensures { OnOk result (string_bytes text.new ≡ string_bytes text.old ++ sends_part came.now) }
+// Puts the record in hex, or a dash.
+fn put_record<K: Sink>(
+    page: &mut Page,
+    sink: &mut K,
+    frame: &mut Frame,
+    found: &MaybeRecord,
+) -> Result<(), Failed>
+    requires { IfSome found.now CanBeRecorded }
+    ensures { Puts K.holds K.faults sink.old sink.new page.old page.new
+        (codes " " ++ record_text found.now) result }
 {
-    let sends = text_of_sends(alloc, came.sends.as_slice())?;
-    let dropped = came.dropped;
-    writeln!(text, " {sends} {dropped}")?;
-    Ok(())
-}
-
-fn text_of_sends(alloc: Global, sends: &[(SiteId, Packet)]) -> Mem<String>
-    ensures { IfOk result (λ text. string_bytes text ≡ sends_text sends.now) }
-{
-    let mut pieces = Vec::new(alloc);
-    for (to, packet) in sends {
-        push_send(alloc, &mut pieces, *to, packet)?;
+    match found.as_ref() {
+        Some(stable) => {
+            frame.write_record(stable);
+            put_parts(page, sink, &[Part::Word(" "), Part::Hex(frame.as_slice())])
+        }
+        None => page.put(sink, b" -"),
     }
-    list_of(alloc, &pieces)
 }
 
-fn push_send(alloc: Global, pieces: &mut Vec<String>, to: SiteId, packet: &Packet) -> Mem<()>
-    ensures { OnOk result
-        (map string_bytes pieces.new.items ≡ map string_bytes pieces.old.items ++ send_text (to, packet.now) ∷ []) }
+fn put_sends<K: Sink>(page: &mut Page, sink: &mut K, came: &Came) -> Result<(), Failed>
+    ensures { Puts K.holds K.faults sink.old sink.new page.old page.new (sends_part came.now) result }
 {
-    let to = to.0;
-    let word = word_of_packet(packet);
-    pieces.push(format!(in alloc; "{to}:{word}")?)?;
+    page.put(sink, b" ")?;
+    put_packets(page, sink, came.sends.as_slice())?;
+    put_parts(
+        page,
+        sink,
+        &[
+            Part::Word(" "),
+            Part::Number(came.dropped as u128),
+            Part::Word("\n"),
+        ],
+    )
+}
+
+// Puts where each packet goes and its kind, with a comma between each two, or a dash.
+fn put_packets<K: Sink>(
+    page: &mut Page,
+    sink: &mut K,
+    sends: &[(SiteId, Packet)],
+) -> Result<(), Failed>
+    ensures { Puts K.holds K.faults sink.old sink.new page.old page.new (sends_text sends.now) result }
+{
+    if sends.is_empty() {
+        return page.put(sink, b"-");
+    }
+    for (place, (to, packet)) in sends.iter().enumerate() {
+        put_packet(page, sink, place > 0, *to, packet)?;
+    }
     Ok(())
+}
+
+fn put_packet<K: Sink>(
+    page: &mut Page,
+    sink: &mut K,
+    some: bool,
+    to: SiteId,
+    packet: &Packet,
+) -> Result<(), Failed>
+    ensures { Puts K.holds K.faults sink.old sink.new page.old page.new
+        (list_behind some (send_text (to, packet.now) ∷ [])) result }
+{
+    put_parts(
+        page,
+        sink,
+        &[
+            Part::Word(comma_behind(some)),
+            Part::Number(to.0 as u128),
+            Part::Word(":"),
+            Part::Word(word_of_packet(packet)),
+        ],
+    )
 }
 
 fn word_of_call(call: &Call) -> &'static str
@@ -135,94 +196,88 @@ pub fn word_of_packet(packet: &Packet) -> &'static str
     }
 }
 
-fn text_of_call(alloc: Global, client: u32, word: &str) -> Mem<String>
-    ensures { IfOk result (λ text.
-        string_bytes text ≡ codes "call:" ++ decimal client ++ codes ":" ++ word.now) }
-{
-    Ok(format!(in alloc; "call:{client}:{word}")?)
-}
-
-fn text_of_event(alloc: Global, event: &Event) -> Mem<String>
-    ensures { IfOk result (λ text. string_bytes text ≡ event_text event.now) }
+fn put_event<K: Sink>(page: &mut Page, sink: &mut K, event: &Event) -> Result<(), Failed>
+    ensures { Puts K.holds K.faults sink.old sink.new page.old page.new (event_text event.now) result }
 {
     match event {
-        Event::Given(input) => text_of_input(alloc, input),
-        Event::Stop => Ok(format!(in alloc; "stop")?),
-        Event::Restart => Ok(format!(in alloc; "restart")?),
+        Event::Given(input) => put_input(page, sink, input),
+        Event::Stop => page.put(sink, b"stop"),
+        Event::Restart => page.put(sink, b"restart"),
     }
 }
 
-fn text_of_input(alloc: Global, input: &Input) -> Mem<String>
-    ensures { IfOk result (λ text. string_bytes text ≡ input_text input.now) }
+fn put_input<K: Sink>(page: &mut Page, sink: &mut K, input: &Input) -> Result<(), Failed>
+    ensures { Puts K.holds K.faults sink.old sink.new page.old page.new (input_text input.now) result }
 {
     match input {
-        Input::Call { client, call } => text_of_call(alloc, *client, word_of_call(call)),
+        Input::Call { client, call } => put_parts(
+            page,
+            sink,
+            &[
+                Part::Word("call:"),
+                Part::Number(*client as u128),
+                Part::Word(":"),
+                Part::Word(word_of_call(call)),
+            ],
+        ),
         Input::Deliver {
             from,
             number,
             packet,
-        } => text_of_delivery(alloc, from.0, *number, word_of_packet(packet)),
-        Input::Advance { from } => text_of_advance(alloc, from.0),
-        Input::Tick => Ok(format!(in alloc; "tick")?),
+        } => put_parts(
+            page,
+            sink,
+            &[
+                Part::Word("deliver:"),
+                Part::Number(from.0 as u128),
+                Part::Word(":"),
+                Part::Number(*number as u128),
+                Part::Word(":"),
+                Part::Word(word_of_packet(packet)),
+            ],
+        ),
+        Input::Advance { from } => put_parts(
+            page,
+            sink,
+            &[Part::Word("advance:"), Part::Number(from.0 as u128)],
+        ),
+        Input::Tick => page.put(sink, b"tick"),
     }
 }
 
-fn text_of_delivery(alloc: Global, from: u8, number: u32, word: &str) -> Mem<String>
-    ensures { IfOk result (λ text. string_bytes text
-        ≡ codes "deliver:" ++ decimal from ++ codes ":" ++ decimal number ++ codes ":" ++ word.now) }
-{
-    Ok(format!(in alloc; "deliver:{from}:{number}:{word}")?)
-}
-
-fn text_of_advance(alloc: Global, from: u8) -> Mem<String>
-    ensures { IfOk result (λ text. string_bytes text ≡ codes "advance:" ++ decimal from) }
-{
-    Ok(format!(in alloc; "advance:{from}")?)
-}
-
-fn text_of_outcome(alloc: Global, outcome: &Outcome) -> Mem<String>
+fn put_outcome<K: Sink>(
+    page: &mut Page,
+    sink: &mut K,
+    frame: &mut Frame,
+    outcome: &Outcome,
+) -> Result<(), Failed>
     requires { All FitsFrame (reply_in outcome.now) }
-    ensures { IfOk result (λ text. string_bytes text ≡ outcome_text outcome.now) }
+    ensures { Puts K.holds K.faults sink.old sink.new page.old page.new (outcome_text outcome.now) result }
 {
     match outcome {
-        Outcome::Replied(reply) => text_of_reply(alloc, reply),
-        Outcome::Taken => Ok(format!(in alloc; "taken")?),
-        Outcome::Passed => Ok(format!(in alloc; "passed")?),
-        Outcome::Failed => Ok(format!(in alloc; "failed")?),
-        Outcome::Full { need, left } => text_of_fullness(alloc, *need, *left),
-        Outcome::Memory => Ok(format!(in alloc; "memory")?),
-        Outcome::Down => Ok(format!(in alloc; "down")?),
-        Outcome::Refused => Ok(format!(in alloc; "refused")?),
-    }
-}
-
-fn text_of_fullness(alloc: Global, need: u64, left: u64) -> Mem<String>
-    ensures { IfOk result (λ text.
-        string_bytes text ≡ codes "full:" ++ decimal need ++ codes ":" ++ decimal left) }
-{
-    Ok(format!(in alloc; "full:{need}:{left}")?)
-}
-
-fn text_of_reply(alloc: Global, reply: &Reply) -> Mem<String>
-    requires { FitsFrame reply.now }
-    ensures { IfOk result (λ text. string_bytes text ≡ outcome_text (Outcome.Replied reply.now)) }
-{
-    let mut frame = Vec::new(alloc);
-    push_reply(&mut frame, reply)?;
-    let frame = hex::encode(alloc, frame.as_slice())?;
-    Ok(format!(in alloc; "reply:{frame}")?)
-}
-
-// The record in hex, or a dash.
-fn text_of_record(alloc: Global, found: &MaybeRecord) -> Mem<String>
-    requires { IfSome found.now CanBeRecorded }
-    ensures { IfOk result (λ text. string_bytes text ≡ record_text found.now) }
-{
-    match found.as_ref() {
-        Some(stable) => {
-            let spelling = encode(alloc, stable)?;
-            Ok(hex::encode(alloc, spelling.as_slice())?)
+        Outcome::Replied(reply) => {
+            frame.write_reply(reply);
+            put_parts(
+                page,
+                sink,
+                &[Part::Word("reply:"), Part::Hex(frame.as_slice())],
+            )
         }
-        None => Ok(format!(in alloc; "-")?),
+        Outcome::Taken => page.put(sink, b"taken"),
+        Outcome::Passed => page.put(sink, b"passed"),
+        Outcome::Failed => page.put(sink, b"failed"),
+        Outcome::Full { need, left } => put_parts(
+            page,
+            sink,
+            &[
+                Part::Word("full:"),
+                Part::Number(*need as u128),
+                Part::Word(":"),
+                Part::Number(*left as u128),
+            ],
+        ),
+        Outcome::Memory => page.put(sink, b"memory"),
+        Outcome::Down => page.put(sink, b"down"),
+        Outcome::Refused => page.put(sink, b"refused"),
     }
 }

@@ -1,4 +1,4 @@
-use Rattle.std.proofs.Common.{◌++◌, List, OnOk, ap, subst, append_assoc, ◌∙◌}
+use Rattle.std.proofs.Common.{◌++◌, List, ap, subst, append_assoc, ◌∙◌}
 use Rattle.walter_base.specs.declared.message.Record.{Record}
 use Rattle.walter_rules.specs.Knowledge.{site_at}
 use Rattle.walter_rules.specs.Standing.{up_after}
@@ -13,15 +13,14 @@ returns c = λ sites up recs tells.
     let kept = record_in e.came.kept in
     let wrote = record_in e.came.wrote in
     let now = up_after e.event e.came.outcome up in
-    let first = c.in_ok-add_stable.ensures.tells sites now recs record {
+    let first = c.add_stable.ensures.tells sites now recs record {
       stands = c.up_behind-self.ensures ∙ ap (up_after e.event e.came.outcome) tells.stands;
       epoch = tells.epoch;
       records = tells.records;
       got = tells.got;
       seen = tells.seen;
-      log = tells.log;
       commits = tells.commits;
     } in
-    subst (λ (rs : List Record). OnOk c.add_stable-2.result (Tells c.add_stable-2.new.self sites i now rs))
+    subst (λ (rs : List Record). Tells c.add_stable-2.new.self sites i now rs)
     (append_assoc recs kept wrote)
     (c.add_stable-2.ensures.tells sites now (recs ++ kept) first)

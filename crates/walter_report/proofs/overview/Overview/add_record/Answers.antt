@@ -1,12 +1,7 @@
-use Rattle.std.proofs.Common.{◌≡◌, ◌≤◌, ◌+◌, ◌∷◌, [], ◌++◌, ℕ, List, All, Some, length, ap, sym, subst, ◌∙◌, arith}
-use Rattle.std.specs.List.{join_with_byte}
-use Rattle.std.specs.String.{string_bytes}
+use Rattle.std.proofs.Common.{◌≡◌, ◌≤◌, ◌+◌, ℕ, List, All, Some, length, ap, sym, subst, ◌∙◌, arith}
 use Rattle.std.proofs.lemmas.List.{length_push, with_items_is}
-use Rattle.std.proofs.lemmas.Result.{on_ok_weaker}
 use Rattle.walter_rules.specs.Knowledge.{site_at}
 use Rattle.walter_rules.specs.Learning.{epoch_after}
-use Rattle.walter_report.specs.Sites.{log_pieces}
-use Rattle.walter_report.specs.Words.{comma}
 use Rattle.walter_report.proofs.Logged.{length_log_pieces}
 use Rattle.walter_report.proofs.Telling.{last_epoch-more}
 use Rattle.walter_report.proofs.overview.Overview.add_record.Goals as goal
@@ -36,9 +31,7 @@ returns-clause-tells c = λ sites up recs tells.
     grind (arith, c.count_got.auto.got, c.deref_mut.ensures.value, c.deref_mut.ensures.len) in
     let seen : length c.count_seen.new.seen ≡ old.seen.len =
     grind (arith, c.count_seen.auto.seen, c.deref_mut-2.ensures.value, c.deref_mut-2.ensures.len) in
-    on_ok_weaker c.push_logged.result
-    (λ (log : string_bytes c.push_logged.new.log ≡ join_with_byte comma
-    (log_pieces (site_at c.args.site) (recs ++ stable ∷ []))). record {
+    record {
       stands = tells.stands;
       epoch = c.epoch_behind-self.ensures ∙ ap (epoch_after (Some stable)) tells.epoch
           ∙ sym (last_epoch-more 0 recs stable);
@@ -47,12 +40,10 @@ returns-clause-tells c = λ sites up recs tells.
           ∙ c.count_got.ensures.counts sites recs (c.deref_mut.ensures.value ∙ tells.got);
       seen = with_items_is old.seen c.count_seen.new.seen seen
           ∙ c.count_seen.ensures.counts sites recs (c.deref_mut-2.ensures.value ∙ tells.seen);
-      log = log;
       commits = omega (
         arith,
         tells.commits,
         c.commits_in.ensures.commits (site_at c.args.site),
         length_log_pieces (site_at c.args.site) recs stable,
       );
-    })
-    (c.push_logged.ensures recs tells.log)
+    }

@@ -16,4 +16,4 @@ loop-entry-preserved c =
     let k = c.loop-entry.entry-index in
     let e = c.entry-item.result in
     Tells-more c.add_entry.new.self c.args.sites (site_at c.args.site) trail k e e (search rules) c.entry-item.is
-    (c.in_ok-add_entry.ensures c.args.sites (is_up (take k trail)) (records (take k trail)) c.loop-entry.invariant)
+    (c.add_entry.ensures c.args.sites (is_up (take k trail)) (records (take k trail)) c.loop-entry.invariant)

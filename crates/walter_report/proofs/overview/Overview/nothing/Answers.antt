@@ -13,6 +13,5 @@ returns c = λ i.
       records = refl;
       got = got ∙ counts_none (is_got i) c.args.sites;
       seen = seen ∙ counts_none (is_seen i) c.args.sites;
-      log = c.new.ensures.bytes;
       commits = refl;
     }

@@ -1,0 +1,42 @@
+-- The parts of a line, and lines, one behind the other.
+use Rattle.std.proofs.Common.{◌≡◌, ◌<◌, ◌+◌, ℕ, List, [], ◌∷◌, ◌++◌, length, drop, get_or, flat_map, refl, sym, ap, ◌∙◌, append_assoc, append-nil}
+use Rattle.std.proofs.lemmas.List.{drop_more}
+use Rattle.walter_rules.specs.declared.entry.Entry.{Entry}
+use Rattle.walter_report.specs.declared.parts.Part.{Part}
+use Rattle.walter_report.specs.Sites.{site_line, site_lines}
+use Rattle.walter_report.specs.Summaries.{count_line, count_lines}
+use Rattle.walter_report.specs.Parts.{part_text, parts_behind, parts_text}
+
+parts_flat : (text : List ℕ) (parts : List Part) → parts_behind text parts ≡ text ++ flat_map part_text parts
+parts_flat text [] = sym (append-nil text)
+parts_flat text (part ∷ parts) =
+    parts_flat (text ++ part_text part) parts ∙ append_assoc text (part_text part) (flat_map part_text parts)
+
+pub parts_text-flat : (parts : List Part) → parts_text parts ≡ flat_map part_text parts
+parts_text-flat [] = refl
+parts_text-flat (part ∷ parts) = parts_flat (part_text part) parts
+
+-- a text stands before all of them
+pub behind_text : (text : List ℕ) (part : Part) (parts : List Part)
+    → text ++ parts_text (part ∷ parts) ≡ parts_behind (text ++ part_text part) parts
+behind_text text part parts =
+    ap (λ t. text ++ t) (parts_flat (part_text part) parts)
+    ∙ sym (append_assoc text (part_text part) (flat_map part_text parts))
+    ∙ sym (parts_flat (text ++ part_text part) parts)
+
+-- the line of a site, and those of the sites behind it
+pub site_next : (sites : ℕ) (trails : List (List Entry)) (k : ℕ) (trail here : List Entry) (n : ℕ)
+    → k < length trails → trail ≡ get_or trails k trail → here ≡ trail → n ≡ sites
+    → site_lines sites k (drop k trails) ≡ site_line n k here ++ site_lines sites (k + 1) (drop (k + 1) trails)
+site_next sites trails k trail here n within are same many =
+    ap (site_lines sites k) (drop_more trails k trail within)
+    ∙ ap (λ (es : List Entry). site_line sites k es ++ site_lines sites (k + 1) (drop (k + 1) trails))
+    (sym are ∙ sym same)
+    ∙ ap (λ m. site_line m k here ++ site_lines sites (k + 1) (drop (k + 1) trails)) (sym many)
+
+pub count_next : (trails : List (List Entry)) (k : ℕ) (trail here : List Entry) → k < length trails
+    → trail ≡ get_or trails k trail → here ≡ trail
+    → count_lines k (drop k trails) ≡ count_line k here ++ count_lines (k + 1) (drop (k + 1) trails)
+count_next trails k trail here within are same =
+    ap (count_lines k) (drop_more trails k trail within)
+    ∙ ap (λ (es : List Entry). count_line k es ++ count_lines (k + 1) (drop (k + 1) trails)) (sym are ∙ sym same)
