@@ -13,7 +13,7 @@ pub text_both : (traced : Bool) (s : Scenario) (trails : List (List Entry))
 text_both true s trails = refl
 text_both false s trails = append-nil (report_text s trails)
 
-pub shown_all : (P : List Entry → Type 0) (traced : Bool) (trails : List (List Entry)) → All P trails
+pub shown_all : (P : List Entry → Type 0) (traced : Bool) (trails : List (List Entry)) → (traced ≡ true → All P trails)
     → All P (shown_of traced trails)
-shown_all P true trails all = all
+shown_all P true trails all = all refl
 shown_all P false trails all = All-nil P

@@ -1,4 +1,4 @@
-ghost use Rattle.std.specs.Prelude.{◌≡◌, ◌≤◌, length, flat_map, All, OnOk, IfErr};
+ghost use Rattle.std.specs.Prelude.{◌≡◌, ◌≤◌, true, length, flat_map, All, OnOk, IfErr};
 ghost use Rattle.walter_base.specs.Vectors.{most_sites};
 ghost use Rattle.walter_reply.specs.Replies.{FitsFrame};
 ghost use Rattle.walter_report.specs.Answered.{HaveEach};
@@ -35,7 +35,7 @@ pub fn write_report<K: Sink>(
 ) -> Result<(), WriteFault>
     requires few { length trails.now ≤ most_sites }
     requires frames { HaveFrames trails.now }
-    requires records { HaveSpellings trails.now }
+    requires records { traced ≡ true → HaveSpellings trails.now }
     ensures ok { OnOk result
         (Appends (K.holds sink.old) (K.holds sink.new) (text_of traced scenario.now trails.now)) }
     ensures faultless { OnOk result (K.faults sink.new ≡ K.faults sink.old) }

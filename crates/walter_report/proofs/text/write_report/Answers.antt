@@ -18,7 +18,7 @@ put_lines-requires-clause-frames g c =
     let entries : c.as_slice.result.now ≡ merge (shown_of traced trails) =
     c.as_slice.ensures ∙ c.in_ok-merged.ensures ∙ ap merge c.shown.ensures in
     subst (λ (ns : List Named). All (λ n. fits n.1) ns) (sym entries)
-    (All-merge fits (shown_of traced trails) (shown_all (λ es. All fits es) traced trails c.requires.frames))
+    (All-merge fits (shown_of traced trails) (shown_all (λ es. All fits es) traced trails (λ told. c.requires.frames)))
 
 pub put_lines-requires-clause-records : goal.put_lines-requires-clause-records
 put_lines-requires-clause-records g c =
