@@ -7,9 +7,10 @@ use anyhow::{Result, bail};
 use std::alloc::Global;
 use walter_base::Reply;
 use walter_reply::which_fit;
-use walter_report::report;
+use walter_report::write_report;
 use walter_rules::{Entry, Outcome};
 use walter_scenario::read;
+use walter_stream::MemorySink;
 use walter_trail::Trail;
 
 // Whether a reply has a frame.
@@ -52,7 +53,12 @@ pub(crate) fn check_report(
     if !have_frames(trails) {
         bail!("a reply has no frame");
     }
-    if report(alloc, &scenario, trails)?.as_slice() != written {
+    if trails.len() > 8 {
+        bail!("there are more than eight sites");
+    }
+    let mut sink = MemorySink::with_room(alloc, written.len(), Vec::new(alloc))?;
+    write_report(alloc, &scenario, false, trails, &mut sink)?;
+    if sink.as_slice() != written {
         bail!("what is written isn't the report of the trails");
     }
     Ok(())
