@@ -18,13 +18,14 @@ With --memory it measures how much memory a run takes beside its trail: 90,000 e
 Tick at each 100th. What the trail takes is made up of two things:
 
 - What its list takes, by a run that is the same but for the commits, each of which is an abort there: its entries are alike, and
-  nothing is kept but these. What they own is taken off, and the report.
+  nothing is kept but these. What they own is taken off, and of each the place where its reply lies, which is kept for the report:
+  the report itself is written while the trail is walked, and never held.
 - What the entries own, as records and replies: the small pieces on the heap when the program begins to write, which has let go of
   all but the trails by then (bench/pieces.py).
 
 Each is the growth from half of the events to all, over the same input, so that neither the program nor the scenario counts. The
 run is to grow by 1.5 times as much for each event at most. That has the journal, the rows, the list of what is committed and the
-report. Of a program that keeps its tables while it writes, this says less than it is.
+places of the replies. Of a program that keeps its tables while it writes, this says less than it is.
 
 With --example it plays nothing, and writes one of the two big examples. Both are made so, and the scripts beside them:
 
@@ -64,6 +65,8 @@ START, COMMIT = "0000000101", "0000000108"
 LOADS, SEED, RUNS = (2_000, 6_000, 20_000), 7, 5
 RESTARTS, COMMITS = 1_000, (10, 2_000)
 EVENTS, MOST_TIMES = 90_000, 1.5
+# How many bytes tell where the reply of an entry lies.
+PLACE = 8
 # How many bytes of a journal the records take that a commit of one write of one byte makes, and a restart.
 COMMIT_SIZE, BOOT_SIZE = 119, 10
 
@@ -346,21 +349,20 @@ class Growing:
         self.none, self.half, self.whole = (measured_of([*command, "play"], text) for text in texts)
         pieces = [bytes_in_pieces([*command, "play"], text) for text in texts[1:]]
         self.bytes = (self.whole.megabytes - self.half.megabytes) * 1_000_000 / count
-        self.report = (len(self.whole.written) - len(self.half.written)) / count
         self.pieces = (pieces[1] - pieces[0]) / count
 
 
 def memory_lines(command, events):
     """The lines that tell of the memory of a run beside its trail."""
     committing, aborting = (Growing(command, end, events) for end in (COMMIT_IT, ABORT_IT))
-    listed = aborting.bytes - aborting.report - aborting.pieces
+    listed = aborting.bytes - PLACE - aborting.pieces
     trail = listed + committing.pieces
     yield (f"one site, {events:,} events over {len(kinds.OBJECTS)} objects, {commits_in(committing.whole):,} commits, a Tick at "
            f"each {kinds.EVERY}th event")
     yield f"the input alone: {committing.none.megabytes:.1f} MB"
     yield f"the run: {committing.whole.megabytes:.1f} MB, {committing.bytes:.0f} bytes for each event of its second half"
     yield (f"with aborts in the place of commits: {aborting.whole.megabytes:.1f} MB, {aborting.bytes:.0f} bytes for each, of which "
-           f"{aborting.report:.0f} are the report's and {aborting.pieces:.0f} what entries own")
+           f"{PLACE} are where a reply lies and {aborting.pieces:.0f} what entries own")
     yield f"what the entries of the run own: {committing.pieces:.0f} bytes for each"
     if listed <= 0 or aborting.half.megabytes < 1.02 * committing.none.megabytes:
         yield "what the trail takes isn't told: half of these events take no more than the input did before them"

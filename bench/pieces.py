@@ -1,7 +1,7 @@
 """How much the small pieces on a program's heap take when it begins to write its report.
 
 `walter` has let go of all but the trails by then, and of what it had read: what is left in pieces smaller than LARGE are those
-that the trails' entries own. Lists that have grown, as the trails', the report's and a disk's, are larger. A small library, which
+that the trails' entries own. Lists that have grown, as the trails', a client's replies and a disk's, are larger. A small library, which
 is made here by gcc and loaded before the C library, keeps count: of each piece what the C library gives it, with its own word
 before it.
 """

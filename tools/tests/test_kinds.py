@@ -120,10 +120,10 @@ class Memory(InFolder):
         self.assertEqual(lines[0], "one site, 3,000 events over 100 objects, 989 commits, a Tick at each 100th event")
         self.assertEqual(lines[1:4], [
             "the input alone: 12.0 MB", "the run: 15.9 MB, 1297 bytes for each event of its second half",
-            "with aborts in the place of commits: 15.0 MB, 1000 bytes for each, of which 10 are the report's and 200 what entries "
-            "own"])
+            "with aborts in the place of commits: 15.0 MB, 1000 bytes for each, of which 8 are where a reply lies and 200 what "
+            "entries own"])
         self.assertEqual(lines[4:], ["what the entries of the run own: 240 bytes for each",
-                                     "so the trail takes 1030 bytes for each, and the run 1.26 times that: within 1.5"])
+                                     "so the trail takes 1032 bytes for each, and the run 1.26 times that: within 1.5"])
         self.assertRegex(self.told(2000)[5], "1.61 times that: above 1.5$")
 
     def test_what_is_too_little_is_told(self):
