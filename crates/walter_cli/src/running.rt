@@ -4,6 +4,7 @@ ghost use Rattle.walter_cluster.specs.Benches.{AreAllConnected, AreMet, EachKeep
 ghost use Rattle.walter_cluster.specs.Moments.{IsFirst, moment_of};
 ghost use Rattle.walter_play.specs.Scripts.{ArmsMore, arms_of};
 ghost use Rattle.walter_report.specs.Reports.{HaveFrames};
+ghost use Rattle.walter_report.specs.Texts.{IsUnwritten};
 ghost use Rattle.walter_report.specs.Traces.{HaveSpellings};
 ghost use Rattle.walter_stream.specs.Streams.{Appends};
 ghost use Rattle.walter_cli.specs.Ending.{Drives, EndsRun, EndsEarly, HasStepsFor, IsBuilt, IsPlayable, IsWriteFault, fault_of};
@@ -165,16 +166,35 @@ fn write_result<K: Sink>(
     ensures fault { IfErr result (IsWriteFault (written_by command.now scenario.now trails.now)
         (K.holds sink.old) (K.holds sink.new) (K.faults sink.old) (K.faults sink.new)) }
 {
-    let written = match command {
+    match write_text(alloc, scenario, command, trails, sink) {
+        Ok(()) => Ok(()),
+        Err(WriteFault::NoMemory) => Err(Fault::Memory),
+        Err(WriteFault::Failed) => Err(Fault::Write),
+    }
+}
+
+// The report of these trails, with the trace behind it where one is asked for; or their summary.
+fn write_text<K: Sink>(
+    alloc: Global,
+    scenario: &Scenario,
+    command: &Command,
+    trails: &[Trail],
+    sink: &mut K,
+) -> Result<(), WriteFault>
+    requires running { ¬ IsText command.now }
+    requires few { length trails.now ≤ most_sites }
+    requires frames { HaveFrames trails.now }
+    requires records { HaveSpellings trails.now }
+    ensures ok { OnOk result
+        (Appends (K.holds sink.old) (K.holds sink.new) (written_by command.now scenario.now trails.now)) }
+    ensures fault { IfErr result (IsUnwritten (written_by command.now scenario.now trails.now)
+        (K.holds sink.old) (K.holds sink.new) (K.faults sink.old) (K.faults sink.new)) }
+{
+    match command {
         Command::Play { trace, .. } | Command::Run { trace, .. } => {
             write_report(alloc, scenario, *trace, trails, sink)
         }
         Command::Load { seed, calls } => write_summary(alloc, *seed, *calls, trails, sink),
         Command::Say(_) => unreachable!(),
-    };
-    match written {
-        Ok(()) => Ok(()),
-        Err(WriteFault::NoMemory) => Err(Fault::Memory),
-        Err(WriteFault::Failed) => Err(Fault::Write),
     }
 }
