@@ -9,6 +9,7 @@ from unittest import mock
 from played import run_bench
 import model
 import readings
+import rows
 import stops
 
 SLOW = "a slow commit"
@@ -62,7 +63,7 @@ class Stops(unittest.TestCase):
     def test_scenarios_are_right_and_packs_are_stopped(self):
         for name, make in stops.SCENARIOS.items():
             made, met = make(), Counter()
-            readings.read(json.dumps(stops.armed(made, 0, 1, 7)).encode())
+            readings.read(json.dumps(rows.armed(made, 0, 1, 7)).encode())
             if "areas" not in made:
                 continue
             for site in range(made["sites"]):
