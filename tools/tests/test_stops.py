@@ -67,7 +67,7 @@ class Stops(unittest.TestCase):
             if "areas" not in made:
                 continue
             for site in range(made["sites"]):
-                for _, _, run in stops.stopped(made, site, 1):
+                for _, _, run in rows.stopped(made, site, lambda _: 1):
                     met.update(what for what in run.met if run.met[what])
                     self.assertTrue(all(one.up for one in run.sites))
             for what in ("load fails", "pack fails before the switch byte", "pack fails at the switch byte", "pack into A"):
