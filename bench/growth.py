@@ -23,9 +23,10 @@ Tick at each 100th. What the trail takes is made up of two things:
 - What the entries own, as records and replies: the small pieces on the heap when the program begins to write, which has let go of
   all but the trails by then (bench/pieces.py).
 
-Each is the growth from half of the events to all, over the same input, so that neither the program nor the scenario counts. The
-run is to grow by 1.5 times as much for each event at most. That has the journal, the rows, the list of what is committed and the
-places of the replies. Of a program that keeps its tables while it writes, this says less than it is.
+Each is the growth from half of the events to all, over the same input, so that neither the program nor the scenario counts; and
+while it runs all that is free is given back, so that what reading has let go of doesn't count either (bench/pieces.py). The run is
+to grow by 1.5 times as much for each event at most. That has the journal, the rows, the list of what is committed and the places of
+the replies. Of a program that keeps its tables while it writes, this says less than it is.
 
 With --example it plays nothing, and writes one of the two big examples. Both are made so, and the scripts beside them:
 
@@ -56,7 +57,7 @@ from generator import ABORT as ABORT_IT, COMMIT as COMMIT_IT
 from loads import load_words
 from measured import events_of, measured, measured_of, microseconds
 from model import WINDOW
-from pieces import bytes_in_pieces
+from pieces import taken_by
 
 CLIENTS = 10
 SITES = 3
@@ -347,9 +348,9 @@ class Growing:
     def __init__(self, command, end, events):
         texts, count = texts_of(end, events), events - events // 2
         self.none, self.half, self.whole = (measured_of([*command, "play"], text) for text in texts)
-        pieces = [bytes_in_pieces([*command, "play"], text) for text in texts[1:]]
-        self.bytes = (self.whole.megabytes - self.half.megabytes) * 1_000_000 / count
-        self.pieces = (pieces[1] - pieces[0]) / count
+        (less_owned, less), (owned, most) = (taken_by([*command, "play"], text) for text in texts[1:])
+        self.bytes = (most - less) / count
+        self.pieces = (owned - less_owned) / count
 
 
 def memory_lines(command, events):
@@ -364,8 +365,8 @@ def memory_lines(command, events):
     yield (f"with aborts in the place of commits: {aborting.whole.megabytes:.1f} MB, {aborting.bytes:.0f} bytes for each, of which "
            f"{PLACE} are where a reply lies and {aborting.pieces:.0f} what entries own")
     yield f"what the entries of the run own: {committing.pieces:.0f} bytes for each"
-    if listed <= 0 or aborting.half.megabytes < 1.02 * committing.none.megabytes:
-        yield "what the trail takes isn't told: half of these events take no more than the input did before them"
+    if listed <= 0:
+        yield "what the trail takes isn't told: the program's pieces are not counted"
         return
     times = committing.bytes / trail
     yield (f"so the trail takes {trail:.0f} bytes for each, and the run {times:.2f} times that: "

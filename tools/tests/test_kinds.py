@@ -110,9 +110,10 @@ class Memory(InFolder):
         def owned(words, text):
             self.assertEqual(words, ["program", "--fast", "play"])
             site = played(json.loads(text))
-            return 5_000 + 200 * len(site.entries) + 120 * site.own()
+            return (5_000 + 200 * len(site.entries) + 120 * site.own(),
+                    7_000_000 + for_event * len(site.entries) + for_commit * site.own())
 
-        with mock.patch.object(growth, "measured_of", run), mock.patch.object(growth, "bytes_in_pieces", owned):
+        with mock.patch.object(growth, "measured_of", run), mock.patch.object(growth, "taken_by", owned):
             return list(growth.memory_lines(["program", "--fast"], 3000))
 
     def test_the_growth_beside_the_trail_is_told(self):
@@ -127,7 +128,7 @@ class Memory(InFolder):
         self.assertRegex(self.told(2000)[5], "1.61 times that: above 1.5$")
 
     def test_what_is_too_little_is_told(self):
-        self.assertIn("isn't told", self.told(0, 10)[-1])
+        self.assertIn("isn't told", self.told(0, 200)[-1])
 
     @unittest.skipUnless(shutil.which("gcc"), "there is no gcc")
     def test_it_is_a_command(self):
@@ -140,19 +141,26 @@ class Memory(InFolder):
             self.assertEqual(run_bench(growth, "--memory", "--loads", program)[0], 2)
 
 
-# Of 1,000 pieces of 100 bytes each second one is let go of, and one grows; a large piece isn't counted. The C library gives 104
-# bytes for 100, with a word of 8 before them, and 1,000 for 1,000.
+# It reads into 48 MB and lets go of them. Then, of 4,000 pieces of 1,000 bytes each second one is let go of, and one grows; a large
+# piece isn't counted, but its 8 MB are touched. The C library gives 1,000 bytes for 1,000, with a word of 8 before them, and 2,008
+# for 2,000.
 GROWS = """
 #include <stdlib.h>
+#include <string.h>
 #include <unistd.h>
 int main(void)
 {
-    void *pieces[1000], *large = malloc(1 << 20);
-    for (int i = 0; i < 1000; i++)
-        pieces[i] = malloc(100);
-    for (int i = 0; i < 1000; i += 2)
+    static void *pieces[48000], *large;
+    for (int i = 0; i < 48000; i++)
+        memset(pieces[i] = malloc(1000), 1, 1000);
+    for (int i = 0; i < 48000; i++)
         free(pieces[i]);
-    pieces[1] = realloc(pieces[1], 1000);
+    memset(large = malloc(8 << 20), 1, 8 << 20);
+    for (int i = 0; i < 4000; i++)
+        memset(pieces[i] = malloc(1000), 1, 1000);
+    for (int i = 0; i < 4000; i += 2)
+        free(pieces[i]);
+    pieces[1] = realloc(pieces[1], 2000);
     write(1, "x", 1);
     return large == 0 || pieces[1] == 0;
 }
@@ -164,7 +172,10 @@ class Pieces(InFolder):
     def test_small_pieces_are_counted(self):
         program = os.path.join(self.folder, "grows")
         subprocess.run(["gcc", "-fno-builtin", "-w", "-o", program, "-x", "c", "-"], input=GROWS, text=True, check=True)
-        self.assertEqual(pieces.bytes_in_pieces([program], ""), 499 * 112 + 1008)
+        owned, most = pieces.taken_by([program], "")
+        self.assertEqual(owned, 1999 * 1008 + 2016)
+        # The large piece, the 3,072 pieces that there are at the last look, and what each process has.
+        self.assertTrue(11_000_000 < most < 16_000_000, most)
 
 
 if __name__ == "__main__":
