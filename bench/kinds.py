@@ -9,6 +9,7 @@ may fold its rows.
 import json
 import struct
 import sys
+from collections import namedtuple
 
 from generator import COMMIT, START
 from spelled import READ, SET_ADD, SET_DEL, SET_READ, SET_READ_ID, frame, on_set, write
@@ -127,13 +128,16 @@ def quiet_behind(made, events):
 
 # The kinds
 
+# How many times a plain program's processor time each may take at most, and its memory.
+Kind = namedtuple("Kind", "make times memory", defaults=(3, None))
 MAKERS = {"hot-set": hot_set, "wide-set": wide_set, "long-rows": long_rows}
-KINDS = {**MAKERS, **{f"{name}-ticks": lambda make=make: make(EVERY) for name, make in MAKERS.items()}}
+KINDS = {**{name: Kind(make) for name, make in MAKERS.items()},
+         **{f"{name}-ticks": Kind(lambda make=make: make(EVERY)) for name, make in MAKERS.items()}}
 
 
 def main():
     if sys.argv[1:2] and sys.argv[1] in KINDS:
-        print(text_of(KINDS[sys.argv[1]]()))
+        print(text_of(KINDS[sys.argv[1]].make()))
     else:
         sys.exit("wants one of " + ", ".join(KINDS))
 

@@ -6,6 +6,7 @@ at which its reader stands, so `Reader` goes through the lexemes in the same way
 
 import json
 import re
+import unicodedata
 
 import journals
 
@@ -287,10 +288,15 @@ def check_keys(members):
         refuse("keys")
 
 
+def is_plain(character):
+    """Whether a quoted text has it as it is: it can be seen, and isn't laid over the one before it."""
+    return character.isprintable() and unicodedata.category(character) not in ("Mn", "Me")
+
+
 def quoted(text):
     """A text as the program quotes it."""
     plain = {"\n": "\\n", "\r": "\\r", "\t": "\\t", "\0": "\\0", '"': '\\"', "\\": "\\\\"}
-    return '"' + "".join(plain.get(c) or (c if c.isprintable() else f"\\u{{{ord(c):x}}}") for c in text) + '"'
+    return '"' + "".join(plain.get(c) or (c if is_plain(c) else f"\\u{{{ord(c):x}}}") for c in text) + '"'
 
 
 def check_containers(value, sites):

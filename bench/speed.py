@@ -5,14 +5,16 @@
     python3 bench/speed.py "PLAIN --with its words" --program PATH --calls 6000
     python3 bench/speed.py PLAIN --kinds all
     python3 bench/speed.py PLAIN --kinds hot-set,long-rows-ticks
+    python3 bench/speed.py PLAIN --kinds common
 
 Both play `load --seed N --calls M`, and are to write the same summary. The times are the processor's, user's and system's
 together. The ratios are the program's numbers to the other's: only these say something of another machine. The memory is the
 most that a run takes, where it is more than the 7 MB or so of the process that measures it.
 
-With --kinds both play the scenarios of kinds.py instead, and are to write the same reports, with status 0. There is a line for
-each, with the least and the median time in seconds, the memory in MB, the three ratios, and whether the ratios of both times keep
-the limit of 3. Where the two differ the line says so, and the status is 1.
+With --kinds both play scenarios instead, and are to write the same reports, with status 0: those of kinds.py, of common.py, or
+some of both by their names. There is a line for each, with the least and the median time in seconds, the memory in MB, the three
+ratios, and whether those of both times and of the memory keep the limits of the kind. Where the two differ the line says so, and
+the status is 1.
 """
 
 import argparse
@@ -21,6 +23,7 @@ import statistics
 import sys
 import tempfile
 
+import common
 import file_commits
 import kinds
 from compare import built, first_difference
@@ -28,8 +31,10 @@ from loads import load_words
 from measured import events_of, fault_of, measured, microseconds, run_of
 
 RUNS = 7
-# How many times the other's processor time the program may take. Of less than so many seconds the ratio says little.
-MOST_TIMES, LEAST_SECONDS = 3, 0.02
+# Of less than so many seconds a ratio says little.
+LEAST_SECONDS = 0.02
+KINDS = {**kinds.KINDS, **common.KINDS}
+GROUPS = {"all": kinds.KINDS, "common": common.KINDS}
 LINE = "{:<16} {:>7} | {:>8} {:>8} {:>6} | {:>8} {:>8} {:>6} | {:>6} {:>6} {:>6} | {}"
 HEAD = [LINE.format("", "", *(side for name in ("program", "other") for side in (name, "", "")), "ratios", "", "", ""),
         LINE.format("kind", "events", *("least s", "median s", "MB") * 2, "least", "median", "memory", "limit")]
@@ -99,7 +104,7 @@ def compared(sides, seed, calls, runs):
 def play_kind(sides, name, runs):
     """Runs both in turn on the scenario of a kind. Gives what is to be told of them, where they don't end well or differ."""
     with tempfile.TemporaryFile("w+") as source:
-        source.write(kinds.text_of(kinds.KINDS[name]()))
+        source.write(kinds.text_of(KINDS[name].make()))
         for _ in range(runs):
             one, other = played = [side.play(source) for side in sides]
             failed = [f"{side.name}: {fault_of(side.command, run)}" for side, run in zip(sides, played) if run.status != 0]
@@ -110,12 +115,16 @@ def play_kind(sides, name, runs):
     return []
 
 
-def limit_of(one, other):
-    """Whether the program keeps the limit, by the least times and by the medians."""
+def limit_of(one, other, kind):
+    """Whether the program keeps the limits of the kind: of the least times and of the medians, and of the memory, if there is one."""
     if other.least() < LEAST_SECONDS:
-        return "too short to tell"
-    keeps = one.least() <= MOST_TIMES * other.least() and one.median() <= MOST_TIMES * other.median()
-    return f"within {MOST_TIMES}" if keeps else f"above {MOST_TIMES}"
+        times = "too short to tell"
+    else:
+        keeps = one.least() <= kind.times * other.least() and one.median() <= kind.times * other.median()
+        times = f"within {kind.times}" if keeps else f"above {kind.times}"
+    if kind.memory is None:
+        return times
+    return f"{times}, {'within' if one.memory() <= kind.memory * other.memory() else 'above'} {kind.memory} MB for MB"
 
 
 def kind_line(sides, name):
@@ -123,7 +132,7 @@ def kind_line(sides, name):
     numbers = (number for side in sides
                for number in (f"{side.least():.3f}", f"{side.median():.3f}", f"{side.memory():.0f}"))
     ratios = (ratio(one.least(), other.least()), ratio(one.median(), other.median()), ratio(one.memory(), other.memory()))
-    return LINE.format(name, f"{events_of(one.runs[-1].written):,}", *numbers, *ratios, limit_of(one, other))
+    return LINE.format(name, f"{events_of(one.runs[-1].written):,}", *numbers, *ratios, limit_of(one, other, KINDS[name]))
 
 
 def compare_kinds(commands, names, runs):
@@ -139,11 +148,11 @@ def compare_kinds(commands, names, runs):
 
 
 def kinds_named(words):
-    """The kinds of these words, which are joined by commas: or all."""
-    names = list(kinds.KINDS) if words == "all" else words.split(",")
-    unknown = [name for name in names if name not in kinds.KINDS]
+    """The kinds of these words, which are joined by commas: each is a kind, or a group of them."""
+    names = [name for word in words.split(",") for name in GROUPS.get(word, [word])]
+    unknown = [name for name in names if name not in KINDS]
     if unknown:
-        raise argparse.ArgumentTypeError(f"{unknown[0]!r} is none of {', '.join(kinds.KINDS)}, or all")
+        raise argparse.ArgumentTypeError(f"{unknown[0]!r} is none of {', '.join(KINDS)}, or {' or '.join(GROUPS)}")
     return names
 
 
@@ -159,8 +168,8 @@ def main():
     parser.add_argument("other", help="the other program, with the words that it takes before `load` or `play`, if any")
     parser.add_argument("--program", metavar="PATH", help="the program, with its words if it takes some; without it that of this "
                         "repository, which ./walter proves and builds first where that isn't done yet")
-    parser.add_argument("--kinds", type=kinds_named, metavar="NAMES", help="play the scenarios of these kinds, joined by commas, "
-                        f"or of all: {', '.join(kinds.KINDS)}")
+    parser.add_argument("--kinds", type=kinds_named, metavar="NAMES", help="play the scenarios of these kinds, joined by commas: "
+                        f"of {', '.join(KINDS)}; all stands for those of kinds.py, and common for those of common.py")
     parser.add_argument("--seed", type=int, default=7, metavar="N", help="the seed of the load; 7 without it")
     parser.add_argument("--calls", type=int, default=20_000, metavar="M", help="how many calls it has; 20000 without it")
     parser.add_argument("--runs", type=int, default=RUNS, metavar="K", help=f"how often each runs; {RUNS} without it")

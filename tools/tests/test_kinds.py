@@ -11,6 +11,7 @@ from unittest import mock
 
 from played import InFolder, TOP, run_bench
 from generator import ABORT, COMMIT
+import common
 import growth
 import kinds
 import measured
@@ -40,13 +41,15 @@ def replies_to(site, *names):
 
 class Kinds(unittest.TestCase):
     def test_each_is_a_scenario_whose_calls_are_all_made(self):
-        for name, make in kinds.KINDS.items():
+        for name, kind in {**kinds.KINDS, **common.KINDS}.items():
             with self.subTest(name):
-                made = make()
+                made = kind.make()
                 text = kinds.text_of(made)
                 self.assertLess(len(text), growth.MOST_BYTES)
                 self.assertIsNotNone(readings.read(text.encode()))
                 self.assertLess(len(made["steps"]) + 1, growth.MOST_ENTRIES)
+                if not made["steps"]:
+                    continue
                 turns = Counter(step[1] for step in made["steps"] if step[0] == "call")
                 for number, (_, sent) in enumerate(made["clients"]):
                     self.assertEqual(sum(1 for _ in model.calls_of(bytes.fromhex(sent), Counter())), turns[number])

@@ -16,7 +16,7 @@ TIME = r"\d+\.\d{3} s, \d+\.\d\d us an event"
 SIDE = rf"least {TIME}; median {TIME}; memory \d+ MB"
 RATIO = r"\d+\.\d\d"
 PLAYS = MODEL.replace("exec", "shift\nexec")
-SMALL = {"hot-set": lambda: kinds.hot_set(commits=3), "long-rows-ticks": lambda: kinds.long_rows(10, 4)}
+SMALL = {"hot-set": kinds.Kind(lambda: kinds.hot_set(commits=3)), "long-rows-ticks": kinds.Kind(lambda: kinds.long_rows(10, 4))}
 
 
 class Speed(InFolder):
@@ -70,7 +70,7 @@ class Speed(InFolder):
 
     def test_kinds_are_compared(self):
         program, words = self.program("one", PLAYS), ["--kinds", "all", "--runs", "2"]
-        with mock.patch.dict(kinds.KINDS, SMALL, clear=True):
+        with mock.patch.dict(kinds.KINDS, SMALL, clear=True), mock.patch.dict(speed.KINDS, SMALL):
             status, told = run_bench(speed, program, "--program", program, *words)
         self.assertEqual(status, False)
         first, *head, hot, long = told.splitlines()
@@ -83,7 +83,7 @@ class Speed(InFolder):
         log = os.path.join(self.folder, "log")
         one, other = (self.program(name, f'#!/bin/sh\necho {name} "$@" >> {log}\nwc -c\necho "site 0 up events 4 "\n')
                       for name in ("one", "other"))
-        with mock.patch.dict(kinds.KINDS, SMALL, clear=True):
+        with mock.patch.dict(kinds.KINDS, SMALL, clear=True), mock.patch.dict(speed.KINDS, SMALL):
             status, told = run_bench(speed, f"{other} --stage 2", "--program", f"{one} --fast", "--runs", "2", "--kinds", "hot-set")
         self.assertEqual((status, len(told.splitlines())), (False, 4))
         self.assertIn("too short to tell", told)
@@ -93,7 +93,7 @@ class Speed(InFolder):
     def test_kinds_that_differ_or_fail_are_told(self):
         one, other, failing = (self.program(name, f"#!/bin/sh\necho same\necho {name}\n{end}\n")
                                for name, end in (("one", ""), ("other", ""), ("failing", "echo why >&2; exit 5")))
-        with mock.patch.dict(kinds.KINDS, SMALL, clear=True):
+        with mock.patch.dict(kinds.KINDS, SMALL, clear=True), mock.patch.dict(speed.KINDS, SMALL):
             status, told = run_bench(speed, other, "--program", one, "--kinds", "all")
             self.assertEqual((status, told.splitlines()[3:]), (True, [
                 line for name in SMALL
@@ -107,10 +107,22 @@ class Speed(InFolder):
             made.runs = [measured.Measured("", number, 10) for number in seconds]
             return made
 
-        self.assertEqual(speed.limit_of(side(0.3, 0.3, 0.3), side(0.1, 0.1, 0.1)), "within 3")
-        self.assertEqual(speed.limit_of(side(0.31, 0.31, 0.31), side(0.1, 0.11, 0.11)), "above 3")
-        self.assertEqual(speed.limit_of(side(0.1, 0.31, 0.31), side(0.1, 0.1, 0.1)), "above 3")
-        self.assertEqual(speed.limit_of(side(0.1), side(0.019)), "too short to tell")
+        kind = kinds.Kind(None)
+        self.assertEqual(speed.limit_of(side(0.3, 0.3, 0.3), side(0.1, 0.1, 0.1), kind), "within 3")
+        self.assertEqual(speed.limit_of(side(0.31, 0.31, 0.31), side(0.1, 0.11, 0.11), kind), "above 3")
+        self.assertEqual(speed.limit_of(side(0.1, 0.31, 0.31), side(0.1, 0.1, 0.1), kind), "above 3")
+        self.assertEqual(speed.limit_of(side(0.1), side(0.019), kind), "too short to tell")
+
+    def test_the_memory_has_a_limit_where_the_kind_has_one(self):
+        def side(seconds, megabytes):
+            made = speed.Side("a side", [])
+            made.runs = [measured.Measured("", seconds, megabytes)]
+            return made
+
+        kind = kinds.Kind(None, 2, 1.8)
+        self.assertEqual(speed.limit_of(side(0.2, 18), side(0.1, 10), kind), "within 2, within 1.8 MB for MB")
+        self.assertEqual(speed.limit_of(side(0.3, 19), side(0.1, 10), kind), "above 2, above 1.8 MB for MB")
+        self.assertEqual(speed.limit_of(side(0.3, 19), side(0.01, 20), kind), "too short to tell, within 1.8 MB for MB")
 
     def test_kinds_that_there_are_not(self):
         with mock.patch("sys.stderr"):
