@@ -1,7 +1,6 @@
 ghost use Rattle.std.specs.Prelude.{◌≡◌};
 
 use thiserror::Error;
-use walter_stream::Failed as Refused;
 
 /// Why a text was not written to its end.
 #[derive(Clone, Copy, Debug, PartialEq, Eq, Error)]
@@ -22,12 +21,12 @@ impl From<walter_base::NoMemory> for WriteFault {
     }
 }
 
-impl From<Refused> for WriteFault {
+impl From<walter_stream::Failed> for WriteFault {
     ghost use Rattle.walter_report.specs.declared.fault.WriteFault.TheVariants.{Failed};
 
     ghost from_gives = { λ _ e. e ≡ Failed };
 
-    fn from(_fault: Refused) -> WriteFault {
+    fn from(_fault: walter_stream::Failed) -> WriteFault {
         WriteFault::Failed
     }
 }

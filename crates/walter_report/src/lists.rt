@@ -1,4 +1,4 @@
-ghost use Rattle.std.specs.Prelude.{◌≡◌, ◌++◌, Bool, map};
+ghost use Rattle.std.specs.Prelude.{◌≡◌, ◌++◌, map};
 ghost use Rattle.std.specs.Fmt.{decimal};
 ghost use Rattle.walter_report.specs.Lists.{comma_behind};
 ghost use Rattle.walter_report.specs.Pages.{Puts};

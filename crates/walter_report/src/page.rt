@@ -9,8 +9,8 @@ use walter_stream::{Failed, Sink, write_all};
 // How many bytes may wait.
 const ROOM: usize = 65_536;
 
-// Bytes on their way to a sink. They wait until they fill a page, which is then written at once: so a text is written in
-// few calls, and none but `new` takes memory. Contracts see the bytes that wait.
+// Bytes on their way to a sink. They wait until the next ones find no place, and are then written at once: so a text is
+// written in few calls, and none but `new` takes memory. Contracts see the bytes that wait.
 #[derive(Drop)]
 pub(crate) struct Page {
     waiting: Vec<u8>,

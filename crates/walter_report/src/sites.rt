@@ -1,4 +1,4 @@
-ghost use Rattle.std.specs.Prelude.{◌≡◌, length};
+ghost use Rattle.std.specs.Prelude.{length};
 ghost use Rattle.walter_report.specs.Overviews.{Tells, TellEach};
 ghost use Rattle.walter_report.specs.Pages.{Puts};
 ghost use Rattle.walter_report.specs.Sites.{records, is_up, events_part, commits_part, site_line, site_lines};

@@ -1,4 +1,4 @@
-ghost use Rattle.std.specs.Prelude.{◌≡◌, ◌≤◌, length, OnOk, IfErr};
+ghost use Rattle.std.specs.Prelude.{◌≡◌, length, OnOk, IfErr};
 ghost use Rattle.walter_report.specs.Overviews.{Tells, TellEach};
 ghost use Rattle.walter_report.specs.Pages.{Puts};
 ghost use Rattle.walter_report.specs.Sites.{is_up, records};
@@ -19,8 +19,8 @@ use walter_rules::Entry;
 use walter_stream::{Failed, Sink};
 use walter_trail::Trail;
 
-/// Writes the summary of a load: the number that it was made of, how many calls it has, and the replies and the sites by
-/// its trails, one for each site. All memory is taken before the first byte is written.
+/// Writes the summary of a load: the number that it was made of, how many calls it has, and by its trails, one for each
+/// site, the replies and the sites. All memory is taken before the first byte is written.
 pub fn write_summary<K: Sink>(
     alloc: Global,
     number: u64,

@@ -1,6 +1,5 @@
-ghost use Rattle.std.specs.Prelude.{◌≡◌, ◌≤◌, true, length, flat_map, All, OnOk, IfErr};
+ghost use Rattle.std.specs.Prelude.{◌≡◌, ◌≤◌, true, length, flat_map, OnOk, IfErr};
 ghost use Rattle.walter_base.specs.Vectors.{most_sites};
-ghost use Rattle.walter_reply.specs.Replies.{FitsFrame};
 ghost use Rattle.walter_report.specs.Answered.{HaveEach};
 ghost use Rattle.walter_report.specs.Overviews.{TellEach};
 ghost use Rattle.walter_report.specs.Pages.{Puts};
@@ -24,8 +23,8 @@ use walter_scenario::Scenario;
 use walter_stream::{Failed, Sink};
 use walter_trail::{Trail, merge};
 
-/// Writes the report of a run, by its trails, one for each site; and, where it is to be traced, the trace behind it, the
-/// text of the merge of the trails. All memory is taken before the first byte is written, and the text is never held.
+/// Writes the report of a run, by its trails, one for each site, and where it is to be traced the trace behind it, which
+/// has a line for each entry. All memory is taken before the first byte is written, and the text is never held.
 pub fn write_report<K: Sink>(
     alloc: Global,
     scenario: &Scenario,

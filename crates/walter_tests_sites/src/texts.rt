@@ -4,7 +4,7 @@ use std::alloc::Global;
 use walter_base::Mem;
 
 /// How many bytes of a long text are said, of its front and of its end.
-const SHOWN: usize = 100;
+const SHOWN: usize = 110;
 
 // The piece, with the number as twelve hex digits in the place of its first `#`, or as it is written in that of its
 // first `%`.
