@@ -478,6 +478,8 @@ ROWS = {
 
 TOP = os.path.join(os.path.dirname(os.path.abspath(__file__)), "..")
 TESTED = os.path.join(TOP, "crates", "walter_tests_sites")
+# How many bytes of a long text are said, of its front and of its end.
+SHOWN = 110
 
 
 def example(name, **more):
@@ -508,7 +510,7 @@ def numbered(piece, number):
 
 def cut(text):
     """The text, or of a long one its front and its end."""
-    return f"{text[:100]} .. {text[-100:]}" if len(text) > 300 else text
+    return f"{text[:SHOWN]} .. {text[-SHOWN:]}" if len(text) > 3 * SHOWN else text
 
 
 def brief(report):
