@@ -20,6 +20,9 @@ const INPUTS: usize = 2_000;
 /// So many of them at least are accepted, and so many refused.
 const FEW: usize = 100;
 
+/// The same of texts: most changes leave no JSON.
+const FEW_TEXTS: usize = 20;
+
 /// The most bytes that an input may have: those of the body of a frame.
 const LONGEST: usize = 65_536;
 
@@ -263,7 +266,7 @@ fn any_text_is_read_as_its_json_value_is(rt: HostRuntime) -> Result<(), Fail> {
             accepted = accepted.saturating_add(1);
         }
     }
-    assert!(rt; accepted >= FEW, "{accepted} texts are accepted");
+    assert!(rt; accepted >= FEW_TEXTS, "{accepted} texts are accepted");
     assert!(rt; accepted <= INPUTS - FEW, "{accepted} texts are accepted");
     Ok(())
 }
