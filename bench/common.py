@@ -5,12 +5,11 @@
 Each goes by no chance, and has some thousands to some ten thousands of calls, as many as fit into a scenario.
 """
 
-import sys
-
 import growth
+import kinds
 import loads
 from generator import COMMIT, START
-from kinds import CONTAINERS, REGULAR, Kind, Maker, at_one_site, read_of, text_of
+from kinds import CONTAINERS, REGULAR, Kind, Maker, at_one_site, read_of
 from spelled import frame, write
 
 VALUE = bytes(range(256)) * 16
@@ -21,14 +20,6 @@ CLIENTS_OF_BYTES, BYTES_OF_EACH = 1_000, 8_300
 
 def write_of(local, number):
     return write((REGULAR, local), b"%08d" % number)
-
-
-def spread(transactions=10_000):
-    """Ten clients by turns: each transaction writes an object of its own and reads it."""
-    maker = Maker(10)
-    for number in range(transactions):
-        maker.transaction(number % 10, write_of(number, number), read_of((REGULAR, number)))
-    return maker.made()
 
 
 def older_reads(objects=4_000, reads=7_000):
@@ -92,15 +83,6 @@ def large_reads(reads=5_000):
     return maker.made()
 
 
-def stops(commits=200, restarts=2_000):
-    """A site commits, and then stops and restarts again and again."""
-    maker = Maker(1)
-    for number in range(commits):
-        maker.transaction(0, write_of(number, number))
-    made = maker.made()
-    return {**made, "steps": [*made["steps"], *[["stop", 0], ["restart", 0]] * restarts]}
-
-
 def no_steps():
     """As many bytes as a scenario may have, nearly all of them what clients send, and no steps."""
     sent = (frame(write((REGULAR, 1), VALUE[:90])) * BYTES_OF_EACH)[:BYTES_OF_EACH].hex()
@@ -108,14 +90,14 @@ def no_steps():
 
 
 KINDS = {
-    "spread": Kind(spread, 2, 1.8),
+    "spread": Kind(lambda: growth.scenario(40_000), 2, 1.8),
     "older-reads": Kind(older_reads, 2, 1.8),
     "few-hot": Kind(few_hot, 2, 1.8),
     "ten-at-once": Kind(ten_at_once, 2, 1.8),
     "sessions": Kind(sessions, 2, 1.8),
     "wide-writes": Kind(wide_transactions, 2, 1.8),
     "large-writes": Kind(large_writes, 2, 1.8),
-    "stops": Kind(stops, 1.5, 1.8),
+    "stops": Kind(lambda: growth.stops_behind(200, 2_000), 1.5, 1.8),
     "large-reads": Kind(large_reads, 2, 2),
     "three-sites": Kind(lambda: growth.Spread(5_000).made(), 2, 1.8),
     "load": Kind(lambda: loads.made(7, loads.MOST_CALLS), 2, 1.8),
@@ -123,12 +105,5 @@ KINDS = {
 }
 
 
-def main():
-    if sys.argv[1:2] and sys.argv[1] in KINDS:
-        print(text_of(KINDS[sys.argv[1]].make()))
-    else:
-        sys.exit("wants one of " + ", ".join(KINDS))
-
-
 if __name__ == "__main__":
-    main()
+    kinds.main(KINDS)

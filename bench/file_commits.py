@@ -17,6 +17,7 @@ import sys
 import tempfile
 import time
 
+import kinds
 from compare import built
 from growth import commits_of, in_turns
 
@@ -28,7 +29,7 @@ RECORD = 124
 
 def scenario(commits):
     """One client commits so many transactions of one write."""
-    return in_turns([commits_of(range(commits))], [0] * (3 * commits))
+    return kinds.text_of(in_turns([commits_of(range(commits))], [0] * (3 * commits)))
 
 
 def threaded(commits, threads):

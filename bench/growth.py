@@ -89,10 +89,11 @@ def commits_of(numbers):
 
 def in_turns(sent, turns):
     """One site with regular objects, whose clients send these, and have these turns."""
-    return kinds.text_of(kinds.at_one_site([[1, "regular", 0]], sent, [["call", client] for client in turns]))
+    return kinds.at_one_site([[1, "regular", 0]], sent, [["call", client] for client in turns])
 
 
 def scenario(calls):
+    """Ten clients by turns: each transaction writes an object of its own and reads it."""
     transactions = calls // 4
     sent = [""] * CLIENTS
     for number in range(transactions):
@@ -190,7 +191,8 @@ def behind(transactions):
     return kinds.text_of(Behind(transactions).made())
 
 
-EXAMPLES = {"ten_thousand_calls": ten_thousand_calls, "five_thousand_transactions": lambda: spread(5_000)}
+EXAMPLES = {"ten_thousand_calls": lambda: kinds.text_of(ten_thousand_calls()),
+            "five_thousand_transactions": lambda: spread(5_000)}
 
 
 def strays(report, transactions):
@@ -245,13 +247,17 @@ def load_lines(program):
 # Stops and restarts
 
 
+def stops_behind(commits, restarts):
+    """A site commits so many transactions, and then stops and restarts so often."""
+    made = in_turns([commits_of(range(commits))], [0] * (3 * commits))
+    return {**made, "steps": made["steps"] + [["stop", 0], ["restart", 0]] * restarts}
+
+
 def restarted(areas, commits, restarts, most):
-    """A site commits so many transactions, and then stops and restarts so often, of so many restarts at most. An area has place
-    for all records, unpacked, and no more: a load reads the whole disk, of which half is there from the start."""
+    """The same, of so many restarts at most. An area has place for all records, unpacked, and no more: a load reads the whole
+    disk, of which half is there from the start."""
     size = 9 + BOOT_SIZE * (most + 1) + COMMIT_SIZE * commits
-    return {"sites": 1, "f": 0, "containers": [[1, "regular", 0]], "clients": [[0, commits_of(range(commits))]],
-            "areas": areas, "capacity": size if areas == 1 else 9 + 2 * size,
-            "steps": [["call", 0]] * (3 * commits) + [["stop", 0], ["restart", 0]] * restarts}
+    return {**stops_behind(commits, restarts), "areas": areas, "capacity": size if areas == 1 else 9 + 2 * size}
 
 
 # What plays: how many seconds of processor time a scenario takes, and what its first site's journal has in the end.
@@ -336,34 +342,35 @@ def commits_in(run):
     return int(re.search(r"^site 0 .* records (\d+) ", run.written, re.M)[1]) - 1
 
 
-def texts_of(end, events):
-    """A scenario without an event behind the first, one of half of the events, and one of all, over the same input."""
+def texts_of(end, events, *counts):
+    """For each of these counts the scenario with so many of the events, over the same input."""
     made = kinds.many_objects(events, end)
-    return [kinds.text_of(kinds.quiet_behind(made, count)) for count in (1, events // 2, events)]
+    return [kinds.text_of(kinds.quiet_behind(made, count)) for count in counts]
 
 
 class Growing:
-    """Three runs of a program, whose transactions all end by this call, and what it grows by for each event of the second half."""
+    """A program's run whose transactions all end by this call, and what it grows by for each event of the second half."""
 
-    def __init__(self, command, end, events):
-        texts, count = texts_of(end, events), events - events // 2
-        self.none, self.half, self.whole = (measured_of([*command, "play"], text) for text in texts)
-        (less_owned, less), (owned, most) = (taken_by([*command, "play"], text) for text in texts[1:])
-        self.bytes = (most - less) / count
-        self.pieces = (owned - less_owned) / count
+    def __init__(self, play, end, events):
+        half, whole = texts_of(end, events, events // 2, events)
+        (less_owned, less), (owned, most) = taken_by(play, half), taken_by(play, whole)
+        self.run, count = measured_of(play, whole), events - events // 2
+        self.bytes, self.pieces = (most - less) / count, (owned - less_owned) / count
 
 
 def memory_lines(command, events):
     """The lines that tell of the memory of a run beside its trail."""
-    committing, aborting = (Growing(command, end, events) for end in (COMMIT_IT, ABORT_IT))
+    play = [*command, "play"]
+    committing, aborting = (Growing(play, end, events) for end in (COMMIT_IT, ABORT_IT))
+    alone = measured_of(play, *texts_of(COMMIT_IT, events, 1))
     listed = aborting.bytes - PLACE - aborting.pieces
     trail = listed + committing.pieces
-    yield (f"one site, {events:,} events over {len(kinds.OBJECTS)} objects, {commits_in(committing.whole):,} commits, a Tick at "
+    yield (f"one site, {events:,} events over {len(kinds.OBJECTS)} objects, {commits_in(committing.run):,} commits, a Tick at "
            f"each {kinds.EVERY}th event")
-    yield f"the input alone: {committing.none.megabytes:.1f} MB"
-    yield f"the run: {committing.whole.megabytes:.1f} MB, {committing.bytes:.0f} bytes for each event of its second half"
-    yield (f"with aborts in the place of commits: {aborting.whole.megabytes:.1f} MB, {aborting.bytes:.0f} bytes for each, of which "
-           f"{PLACE} are where a reply lies and {aborting.pieces:.0f} what entries own")
+    yield f"the input alone: {alone.megabytes:.1f} MB"
+    yield f"the run: {committing.run.megabytes:.1f} MB, {committing.bytes:.0f} bytes for each event of its second half"
+    yield (f"with aborts in the place of commits: {aborting.run.megabytes:.1f} MB, {aborting.bytes:.0f} bytes for each, of "
+           f"which {PLACE} are where a reply lies and {aborting.pieces:.0f} what entries own")
     yield f"what the entries of the run own: {committing.pieces:.0f} bytes for each"
     if listed <= 0:
         yield "what the trail takes isn't told: the program's pieces are not counted"
@@ -377,7 +384,7 @@ def memory_lines(command, events):
 
 
 def play_growing(program):
-    fewer, more = (least_time(program, scenario(calls)) for calls in (10_000, 20_000))
+    fewer, more = (least_time(program, kinds.text_of(scenario(calls))) for calls in (10_000, 20_000))
     print(f"10,000 calls: {fewer:.3f} s; 20,000 calls: {more:.3f} s; ratio {more / fewer:.2f}")
     fewer, more = (time_of(program, spread(transactions), transactions) for transactions in (2_500, 5_000))
     print(f"at three sites, 2,500 transactions: {fewer:.3f} s; 5,000 transactions: {more:.3f} s; ratio {more / fewer:.2f}; "

@@ -135,11 +135,12 @@ KINDS = {**{name: Kind(make) for name, make in MAKERS.items()},
          **{f"{name}-ticks": Kind(lambda make=make: make(EVERY)) for name, make in MAKERS.items()}}
 
 
-def main():
-    if sys.argv[1:2] and sys.argv[1] in KINDS:
-        print(text_of(KINDS[sys.argv[1]].make()))
+def main(some=KINDS):
+    """Writes the scenario of the kind, among these, that the word names."""
+    if sys.argv[1:2] and sys.argv[1] in some:
+        print(text_of(some[sys.argv[1]].make()))
     else:
-        sys.exit("wants one of " + ", ".join(KINDS))
+        sys.exit("wants one of " + ", ".join(some))
 
 
 if __name__ == "__main__":

@@ -11,11 +11,10 @@ LARGE are those that the trails' entries own. Lists that have grown, as the trai
 The library keeps count of them: of each piece what the C library gives it, with its own word before it.
 """
 
-import os
-import subprocess
 import tempfile
 
 import measured
+from preloads import library_of
 
 LARGE = 65_536
 EVERY = 1_024
@@ -130,20 +129,12 @@ ssize_t write(int file, const void *from, size_t count)
 """
 
 
-def library_in(folder):
-    """The library, made in a folder."""
-    source, made = os.path.join(folder, "pieces.c"), os.path.join(folder, "pieces.so")
-    with open(source, "w", encoding="utf-8") as file:
-        file.write(LIBRARY)
-    subprocess.run(["gcc", "-O2", "-fPIC", "-shared", "-fno-builtin", f"-DLARGE={LARGE}", f"-DEVERY={EVERY}", "-o", made, source], check=True)
-    return made
-
-
 def taken_by(words, text):
     """How many bytes a program's small pieces take when it begins to write, and how many it has had at most behind its reading,
     where standard input has this text."""
     with tempfile.TemporaryDirectory() as folder, tempfile.NamedTemporaryFile("w+") as told:
-        given = f"LD_PRELOAD={library_in(folder)}", f"PIECES_TOLD={told.name}"
+        library = library_of(folder, "pieces", LIBRARY, LARGE=LARGE, EVERY=EVERY)
+        given = f"LD_PRELOAD={library}", f"PIECES_TOLD={told.name}"
         measured.measured_of(["env", *given, *words], text)
         pieces, most = told.read().split() or (0, 0)
         return int(pieces), int(most)

@@ -43,6 +43,7 @@ import model
 import rows
 import threaded
 from compare import built, first_difference
+from preloads import library_of
 from rows import example
 from spelled import *
 
@@ -203,12 +204,7 @@ Ended = namedtuple("Ended", "status written said counted refused callers")
 
 
 def library_in(folder):
-    """The library, made in a folder."""
-    source, made = os.path.join(folder, "refusals.c"), os.path.join(folder, "refusals.so")
-    with open(source, "w", encoding="utf-8") as file:
-        file.write(LIBRARY)
-    subprocess.run(["gcc", "-O2", "-fPIC", "-shared", "-fno-builtin", f"-DCALLERS={CALLERS}", "-o", made, source], check=True)
-    return made
+    return library_of(folder, "refusals", LIBRARY, CALLERS=CALLERS)
 
 
 def functions_of(path):

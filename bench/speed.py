@@ -116,7 +116,7 @@ def play_kind(sides, name, runs):
 
 
 def limit_of(one, other, kind):
-    """Whether the program keeps the limits of the kind: of the least times and of the medians, and of the memory, if there is one."""
+    """Whether the program keeps the limits of the kind: of both times, and of the memory, if it has one."""
     if other.least() < LEAST_SECONDS:
         times = "too short to tell"
     else:
