@@ -2,7 +2,7 @@
 //! what is written of what it spells is the same bytes.
 ghost use Rattle.std.specs.Prelude.{◌≤◌, length};
 
-use crate::parts::{BEFORE, MOST, NUMBER_1, OBJECT, TID};
+use crate::parts::{BEFORE, MOST, NUMBER_1, OBJECT, TID, copies_of, joined_each};
 use crate::{packets, records, replies, requests, transactions};
 use serde_json::Value;
 use std::alloc::Global;
@@ -70,11 +70,11 @@ static PIECES: [&[u8]; 20] = [
 
 fn bases_of(alloc: Global, reader: Reader) -> Result<Vec<Vec<u8>>, Fail> {
     match reader {
-        Reader::Request => requests::spellings(alloc),
-        Reader::Reply => replies::spellings(alloc),
+        Reader::Request => Ok(copies_of(alloc, &requests::SPELLINGS)?),
+        Reader::Reply => Ok(copies_of(alloc, &replies::SPELLINGS)?),
         Reader::Transaction => transactions::spellings(alloc),
-        Reader::Record => records::spellings(alloc),
-        Reader::Packet => packets::spellings(alloc),
+        Reader::Record => Ok(joined_each(alloc, &records::SPELLINGS)?),
+        Reader::Packet => Ok(joined_each(alloc, &packets::SPELLINGS)?),
     }
 }
 

@@ -40,7 +40,7 @@ fn read(alloc: Global, bytes: &[u8]) -> Result<(u8, u64, u64), Fail> {
 }
 
 /// Each row: the bytes of a packet, in parts, and what it says.
-static SPELLINGS: [(&[&[u8]], (u8, u64, u64)); 17] = [
+pub(crate) static SPELLINGS: [(&[&[u8]], (u8, u64, u64)); 17] = [
     (&[&[1, 0, 0, 0, 0, 0, 0, 0, 7], &HELL, b"o"], (1, 7, 1)),
     (&[&[2], &[0; 8]], (2, 0, 0)),
     (&[&[2], &MOST], (2, u64::MAX, 0)),
@@ -59,15 +59,6 @@ static SPELLINGS: [(&[&[u8]], (u8, u64, u64)); 17] = [
     (&[&[8], &NUMBER_1], (8, 1, 0)),
     (&[&[8], &MOST], (8, u64::MAX, 0)),
 ];
-
-/// The spellings of these.
-pub(crate) fn spellings(alloc: Global) -> Result<Vec<Vec<u8>>, Fail> {
-    let mut all = Vec::new(alloc);
-    for &(parts, _) in &SPELLINGS {
-        all.push(joined(alloc, parts)?)?;
-    }
-    Ok(all)
-}
 
 #[test]
 fn packets_are_read_and_written_again(rt: HostRuntime) -> Result<(), Fail> {

@@ -59,3 +59,27 @@ pub fn with_objects(
     }
     Ok(bytes)
 }
+
+/// The bytes of each, behind its text.
+pub(crate) fn copies_of(
+    alloc: Global,
+    named: &[(&str, &[u8])],
+) -> Result<Vec<Vec<u8>>, AllocError> {
+    let mut all = Vec::new(alloc);
+    for (_, bytes) in named {
+        all.push(bytes.to_vec(alloc)?)?;
+    }
+    Ok(all)
+}
+
+/// The parts of each, one behind the other.
+pub(crate) fn joined_each<T>(
+    alloc: Global,
+    rows: &[(&[&[u8]], T)],
+) -> Result<Vec<Vec<u8>>, AllocError> {
+    let mut all = Vec::new(alloc);
+    for (parts, _) in rows {
+        all.push(joined(alloc, parts)?)?;
+    }
+    Ok(all)
+}

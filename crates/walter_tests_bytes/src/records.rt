@@ -39,7 +39,7 @@ fn read(alloc: Global, bytes: &[u8]) -> Result<(u8, u8, u64, u64), Fail> {
 }
 
 /// Each row: the bytes of a record, in parts, and what it says.
-static SPELLINGS: [(&[&[u8]], (u8, u8, u64, u64)); 14] = [
+pub(crate) static SPELLINGS: [(&[&[u8]], (u8, u8, u64, u64)); 14] = [
     (&[&[1], &[0; 4]], (1, 0, 0, 0)),
     (&[&[1], &[255; 4]], (1, 0, 0xFFFF_FFFF, 0)),
     (&[&[2], &NUMBER_1, &HELL, b"o"], (2, 0, 1, 1)),
@@ -58,15 +58,6 @@ static SPELLINGS: [(&[&[u8]], (u8, u8, u64, u64)); 14] = [
     (&[&[9], &[0; 16]], (9, 0, 0, 0)),
     (&[&[9, 0, 0, 0, 0, 0, 0, 0, 2], &NUMBER_1], (9, 0, 2, 1)),
 ];
-
-/// The spellings of these.
-pub(crate) fn spellings(alloc: Global) -> Result<Vec<Vec<u8>>, Fail> {
-    let mut all = Vec::new(alloc);
-    for &(parts, _) in &SPELLINGS {
-        all.push(joined(alloc, parts)?)?;
-    }
-    Ok(all)
-}
 
 #[test]
 fn records_are_read_and_written_again(rt: HostRuntime) -> Result<(), Fail> {

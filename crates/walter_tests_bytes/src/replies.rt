@@ -29,7 +29,7 @@ const ZERO: [u8; 37] = [
 ];
 
 /// Each reply as `Debug` shows it, and its spelling.
-static SPELLINGS: [(&str, &[u8]); 38] = [
+pub(crate) static SPELLINGS: [(&str, &[u8]); 38] = [
     (
         "Started(Tid { site: SiteId(1), epoch: 2, number: 3 })",
         &[0x80, 1, 0, 0, 0, 2, 0, 0, 0, 0, 0, 0, 0, 3],
@@ -119,15 +119,6 @@ fn read(alloc: Global, spelling: &[u8]) -> Result<String, Fail> {
     } else {
         Err("what is written is what was read".into())
     }
-}
-
-/// The spellings of these.
-pub(crate) fn spellings(alloc: Global) -> Result<Vec<Vec<u8>>, Fail> {
-    let mut all = Vec::new(alloc);
-    for &(_, spelling) in &SPELLINGS {
-        all.push(spelling.to_vec(alloc)?)?;
-    }
-    Ok(all)
 }
 
 #[test]

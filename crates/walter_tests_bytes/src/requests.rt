@@ -32,7 +32,7 @@ const SET_READ_ID: [u8; 21] = [
 ];
 
 /// Each request as `Debug` shows it, and its spelling.
-static SPELLINGS: [(&str, &[u8]); 12] = [
+pub(crate) static SPELLINGS: [(&str, &[u8]); 12] = [
     ("Start", &[1]),
     ("Read(ObjId { container: 1, local: 5 })", &READ),
     (
@@ -77,15 +77,6 @@ fn read(alloc: Global, spelling: &[u8]) -> Result<String, Fail> {
     } else {
         Err("what is written is what was read".into())
     }
-}
-
-/// The spellings of these.
-pub(crate) fn spellings(alloc: Global) -> Result<Vec<Vec<u8>>, Fail> {
-    let mut all = Vec::new(alloc);
-    for &(_, spelling) in &SPELLINGS {
-        all.push(spelling.to_vec(alloc)?)?;
-    }
-    Ok(all)
 }
 
 #[test]
