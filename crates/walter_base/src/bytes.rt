@@ -3,7 +3,7 @@ ghost use Rattle.std.specs.Prelude.{◌≡◌, ◌==◌, ℕ, List, length, IfOk
 use std::alloc::{AllocError, Global};
 use std::marker::Model;
 
-/// A value of an object, or any other bytes. Contracts see the list of them.
+/// Bytes that one owner has, as a spelling. Contracts see the list of them.
 #[derive(Debug, Drop)]
 pub struct Bytes {
     items: Vec<u8>,

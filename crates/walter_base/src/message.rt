@@ -1,9 +1,9 @@
 ghost use Rattle.std.specs.Prelude.{◌≡◌};
 
-use crate::bytes::Bytes;
 use crate::counts::Counts;
 use crate::lists::Objects;
 use crate::names::{ObjId, SiteId, Tid, Version};
+use crate::shared_bytes::SharedBytes;
 use crate::transaction::{Cause, Tx};
 use std::alloc::AllocError;
 use thiserror::Error;
@@ -16,7 +16,7 @@ pub enum Request {
     /// The value of an object.
     Read(ObjId),
     /// A new value for an object.
-    Write(ObjId, Bytes),
+    Write(ObjId, SharedBytes),
     /// One more of an id in a set that counts.
     SetAdd(ObjId, u64),
     /// One less of it.
@@ -69,7 +69,7 @@ pub enum Reply {
     /// The transaction that was started.
     Started(Tid),
     /// The value of an object, where it has one.
-    Value(Option<Bytes>),
+    Value(Option<SharedBytes>),
     /// The update is taken.
     Done,
     /// The ids of a set with a count other than 0, by rising id.

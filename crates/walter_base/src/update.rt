@@ -2,8 +2,8 @@ ghost use Rattle.std.specs.Prelude.{◌≡◌, ◌<◌, ◌^◌, IfOk};
 ghost use Rattle.walter_base.specs.Sizes.{size_of_update, size_of_updates};
 ghost use Rattle.walter_base.specs.Values.{object_of};
 
-use crate::bytes::Bytes;
 use crate::names::{ObjId, Version};
+use crate::shared_bytes::SharedBytes;
 use std::alloc::{AllocError, Global};
 use std::marker::Model;
 use std::sync::ArcSlice;
@@ -12,7 +12,7 @@ use std::sync::ArcSlice;
 #[derive(Debug, Drop)]
 pub enum Update {
     /// The value of a regular object becomes these bytes.
-    Write(ObjId, Bytes),
+    Write(ObjId, SharedBytes),
     /// The count of an id in a set that counts rises by one.
     Add(ObjId, u64),
     /// The count falls by one.

@@ -56,7 +56,7 @@ fn take_scenario<S: Source>(alloc: Global, source: &mut S) -> Result<Scenario, F
         Err(ReadError::Failed) => return Err(Fault::Read),
         Err(ReadError::NoMemory) => return Err(Fault::Memory),
     };
-    match read(alloc, &bytes) {
+    match read(alloc, bytes) {
         Ok(scenario) => Ok(scenario),
         Err(ReadFault::Refused { place, detail }) => Err(Fault::Scenario { place, detail }),
         Err(ReadFault::NoMemory) => Err(Fault::Memory),

@@ -83,4 +83,15 @@ impl<N: Name, D: Disk + Drop, S: Source + Drop, K: Sink + Drop, const I: usize> 
         self.cell.poll()?;
         self.cell.pump_arrived(alloc, &mut self.pump)
     }
+
+    /// The same again and again, so many times at most, until nothing is done. What the last came to.
+    pub fn pump_on(&mut self, alloc: Global, most: u32) -> Mem<Pumped> {
+        for _ in 1..most {
+            let pumped = self.pump(alloc)?;
+            if !matches!(pumped, Pumped::Did) {
+                return Ok(pumped);
+            }
+        }
+        self.pump(alloc)
+    }
 }

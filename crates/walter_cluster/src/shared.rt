@@ -275,19 +275,20 @@ impl<N: Name, D: Disk + Drop, S: Source + Drop, K: Sink + Drop> Cluster<N, D, S,
         }
     }
 
-    /// What has been put for a site arrives there, and the site does the first that can be done, under its lock.
-    pub fn pump(&self, rt: &impl Wait, alloc: Global, site: SiteId) -> Mem<Pumped>
+    /// What has been put for a site arrives there, and the site does the first that can be done; and so again, so many
+    /// times at most, until nothing is done. The lock of the site is taken once for all. What the last came to.
+    pub fn pump(&self, rt: &impl Wait, alloc: Global, site: SiteId, most: u32) -> Mem<Pumped>
         requires { site.0 < length N.origins }
     {
         match site.0 {
-            0 => pump_at(rt, alloc, &self.site_0),
-            1 => pump_at(rt, alloc, &self.site_1),
-            2 => pump_at(rt, alloc, &self.site_2),
-            3 => pump_at(rt, alloc, &self.site_3),
-            4 => pump_at(rt, alloc, &self.site_4),
-            5 => pump_at(rt, alloc, &self.site_5),
-            6 => pump_at(rt, alloc, &self.site_6),
-            7 => pump_at(rt, alloc, &self.site_7),
+            0 => pump_at(rt, alloc, &self.site_0, most),
+            1 => pump_at(rt, alloc, &self.site_1, most),
+            2 => pump_at(rt, alloc, &self.site_2, most),
+            3 => pump_at(rt, alloc, &self.site_3, most),
+            4 => pump_at(rt, alloc, &self.site_4, most),
+            5 => pump_at(rt, alloc, &self.site_5, most),
+            6 => pump_at(rt, alloc, &self.site_6, most),
+            7 => pump_at(rt, alloc, &self.site_7, most),
             _ => unreachable!(),
         }
     }
@@ -312,11 +313,12 @@ fn pump_at<N: Name, D: Disk + Drop, S: Source + Drop, K: Sink + Drop, const I: u
     rt: &impl Wait,
     alloc: Global,
     locked: &Locked<N, D, S, K, I>,
+    most: u32,
 ) -> Mem<Pumped>
     requires { is_some locked.now ≡ true }
 {
     match locked {
-        Some(mutex) => mutex.lock(rt).pump(alloc),
+        Some(mutex) => mutex.lock(rt).pump_on(alloc, most),
         None => unreachable!(),
     }
 }

@@ -1,4 +1,5 @@
 pub mod Marks
 pub mod Bits
 pub mod Codes
+pub mod Listings
 pub mod Counted

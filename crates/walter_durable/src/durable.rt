@@ -8,7 +8,7 @@ use crate::copies::Copies;
 use crate::preferred::PreferredSites;
 use std::alloc::Global;
 use std::marker::Model;
-use walter_base::{Mem, SiteId, Sites, Vts};
+use walter_base::{Mem, SiteId, Vts};
 
 /// How far the own commits are held and seen, and the marks that were journaled. Contracts see the holdings, and the
 /// room for more.
@@ -112,12 +112,11 @@ impl Durable {
     }
 
     /// Keeps one more own commit, with the preferred sites of the objects that it changed, without taking memory.
-    pub fn commit_own(&mut self, preferred: Sites)
+    pub fn commit_own(&mut self, preferred: PreferredSites)
         requires { 0 < self.old.room }
         ensures holdings { self.new.holdings ≡ with_own preferred self.old.holdings }
         ensures room { self.new.room + 1 ≡ self.old.room }
     {
-        let preferred = PreferredSites::of(&preferred);
         let counted = self.counted_with_own(&preferred);
         let seen_by_all = self.seen_with_own();
         self.copies.preferred.push_reserved(preferred);
@@ -158,13 +157,12 @@ impl Durable {
     }
 
     /// How many would be, with one more that changed objects of these preferred sites.
-    pub fn durable_mark_with_own(&self, preferred: &Sites) -> u64
+    pub fn durable_mark_with_own(&self, preferred: &PreferredSites) -> u64
         ensures mark { IsDurableMark (with_own preferred.now self.now.holdings) result }
         ensures rises { self.now.holdings.durable_floor ≤ result }
         ensures within { result ≤ own self.now.holdings + 1 }
     {
-        let preferred = PreferredSites::of(preferred);
-        self.durable_floor.max(self.counted_with_own(&preferred))
+        self.durable_floor.max(self.counted_with_own(preferred))
     }
 
     /// How many would be, if the site had received so many own commits. It looks at those that the mark moves over, and

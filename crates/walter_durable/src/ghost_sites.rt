@@ -4,7 +4,7 @@ ghost use Rattle.walter_base.specs.declared.names.SiteId.{SiteId as Site};
 ghost use Rattle.walter_durable.specs.Codes.{sites_code};
 
 use std::marker::Model;
-use walter_base::Sites;
+use walter_base::SiteId;
 
 /// Sites in some order. They exist in proofs alone, and take no memory.
 #[derive(Drop)]
@@ -19,9 +19,18 @@ impl Model for GhostSites {
 // It owns nothing.
 unsafe impl Send for GhostSites {}
 
+/// What the sites begin with, or what comes to them: one more.
+#[derive(Clone, Copy, Drop)]
+pub enum Listing<'a> {
+    Begin,
+    Add(&'a GhostSites, SiteId),
+}
+
 impl GhostSites {
-    pub fn of(sites: &Sites) -> GhostSites
-        ensures { result.sites ≡ sites.now }
+    ghost use Rattle.walter_durable.specs.Listings.{listed_after};
+
+    pub fn of(listing: &Listing<'_>) -> GhostSites
+        ensures { result ≡ listed_after listing.now }
     {
         GhostSites {}
     }

@@ -7,3 +7,4 @@ mod ghost_sites;
 mod preferred;
 
 pub use durable::Durable;
+pub use preferred::PreferredSites;

@@ -1,9 +1,9 @@
-ghost use Rattle.std.specs.Prelude.{◌≡◌, ◌<◌};
-ghost use Rattle.walter_durable.specs.Bits.{has_place, place_of, AreBitsOf};
+ghost use Rattle.std.specs.Prelude.{◌≡◌, ◌<◌, ◌++◌, ◌∷◌, []};
+ghost use Rattle.walter_durable.specs.Bits.{has_place, place_of};
 
-use crate::ghost_sites::GhostSites;
+use crate::ghost_sites::{GhostSites, Listing};
 use std::marker::Model;
-use walter_base::{MOST_SITES, SiteId, Sites};
+use walter_base::{MOST_SITES, SiteId};
 
 /// The preferred sites of the objects that an own commit changed, in two bytes. Contracts see the list of them.
 #[derive(Drop)]
@@ -31,29 +31,27 @@ fn place_of(site: SiteId) -> u8
     site.0.min(MOST_SITES as u8)
 }
 
-/// The bits of the places that a site of them has.
-fn bits_of(sites: &Sites) -> u16
-    ensures { AreBitsOf result sites.now }
-{
-    let mut bits = 0;
-    for site in sites.as_slice() {
-        bits |= 1 << place_of(*site);
-    }
-    bits
-}
-
 impl PreferredSites {
-    pub fn of(sites: &Sites) -> PreferredSites
-        ensures { result ≡ sites.now }
+    /// No site.
+    pub fn none() -> PreferredSites
+        ensures { result ≡ [] }
     {
         PreferredSites {
-            bits: bits_of(sites),
-            sites: GhostSites::of(sites),
+            bits: 0,
+            sites: GhostSites::of(&Listing::Begin),
         }
     }
 
+    /// One more site comes behind the others.
+    pub fn push(&mut self, site: SiteId)
+        ensures { self.new ≡ self.old ++ (site ∷ []) }
+    {
+        self.bits |= 1 << place_of(site);
+        self.sites = GhostSites::of(&Listing::Add(&self.sites, site));
+    }
+
     /// Whether a site of them has the place.
-    pub fn has(&self, place: u8) -> bool
+    pub(crate) fn has(&self, place: u8) -> bool
         requires { place < 16 }
         ensures { result ≡ has_place self.now place }
     {

@@ -3,7 +3,7 @@ ghost use Rattle.walter_history.specs.Folded.{FoldsWrites, IsFrontSeen};
 ghost use Rattle.walter_history.specs.Lines.{spare_of};
 ghost use Rattle.walter_history.specs.Rows.{sees_row, seen_updates, bytes_of};
 
-use walter_base::{Bytes, Row, Update, Vts};
+use walter_base::{Row, SharedBytes, Update, Vts};
 
 /// How many of the rows stand up to the last that the vector sees, with it.
 fn seen_front(rows: &[Row], by: &Vts) -> usize
@@ -21,7 +21,7 @@ fn seen_front(rows: &[Row], by: &Vts) -> usize
 }
 
 /// The last of the writes that the vector sees gives the value, and goes with all before it.
-pub fn fold_writes(writes: &mut Vec<Row>, value: &mut Option<Bytes>, floor: &Vts)
+pub fn fold_writes(writes: &mut Vec<Row>, value: &mut Option<SharedBytes>, floor: &Vts)
     ensures folds { FoldsWrites floor.now value.old writes.old.items value.new writes.new.items }
     ensures none { seen_updates floor.now writes.new.items ≡ [] }
     ensures room { spare_of writes.old ≤ spare_of writes.new }
@@ -40,7 +40,7 @@ pub fn fold_writes(writes: &mut Vec<Row>, value: &mut Option<Bytes>, floor: &Vts
 }
 
 /// The bytes that the update writes, if it writes any.
-fn written(update: Update) -> Option<Bytes>
+fn written(update: Update) -> Option<SharedBytes>
     ensures { result ≡ bytes_of update }
 {
     match update {

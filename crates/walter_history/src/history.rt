@@ -19,7 +19,7 @@ use crate::steps::Step;
 use indexmap::IndexMap;
 use std::alloc::Global;
 use std::marker::Model;
-use walter_base::{Bytes, Mem, ObjId, Row, Version, Vts};
+use walter_base::{Mem, ObjId, Row, SharedBytes, Version, Vts};
 
 /// What is kept of the rows of each object, folded at a vector: the floor. Contracts see it and the list of lines, and
 /// read these by `kept_of`, `room_of` and `IsOpen`: functions of the object. A fold passes over the first lines, as
@@ -170,7 +170,7 @@ impl History {
     }
 
     /// The value that the updates seen by the vector leave the object.
-    pub fn latest(&self, oid: ObjId, by: &Vts) -> Option<&Bytes>
+    pub fn latest(&self, oid: ObjId, by: &Vts) -> Option<&SharedBytes>
         requires { Covers by.now self.now.floor }
         ensures value { option_copied result ≡ value_by by.now oid (kept_of self.entry.now oid) }
         ensures rows { (rows : List Told) → StandsForRows oid self.entry.now.floor (kept_of self.entry.now oid) rows

@@ -10,13 +10,13 @@ use crate::rows::last_seen;
 use crate::steps::Steps;
 use crate::versions::Versions;
 use std::alloc::Global;
-use walter_base::{Bytes, Mem, ObjId, Row, Update, Vts};
+use walter_base::{Mem, ObjId, Row, SharedBytes, Update, Vts};
 
 /// What is kept of the rows of an object. The value is that of the writes that were folded; the versions are those of
 /// all writes.
 #[derive(Drop)]
 pub struct Line {
-    pub value: Option<Bytes>,
+    pub value: Option<SharedBytes>,
     pub versions: Versions,
     pub writes: Vec<Row>,
     pub steps: Steps,
@@ -78,7 +78,7 @@ pub fn is_clean(line: &Line) -> bool
 }
 
 /// The value that the updates seen by the vector leave the object.
-pub fn value_of<'a>(line: &'a Line, oid: ObjId, by: &Vts) -> Option<&'a Bytes>
+pub fn value_of<'a>(line: &'a Line, oid: ObjId, by: &Vts) -> Option<&'a SharedBytes>
     requires { IsKeptOf oid (kept_by line.now) }
     ensures { option_copied result ≡ value_by by.now oid (kept_by line.entry.now) }
 {

@@ -5,20 +5,20 @@ ghost use Rattle.walter_base.specs.Values.{value_of};
 ghost use Rattle.walter_history.specs.Rows.{AreOf, seen_bytes, seen_updates};
 
 use crate::steps::Step;
-use walter_base::{Bytes, ObjId, Row, Update, Version, Vts};
+use walter_base::{ObjId, Row, SharedBytes, Update, Version, Vts};
 
 /// What is kept of the rows of an object: the value of the writes that were folded, the versions of all writes, and the
 /// writes and the other changes that weren't folded.
 #[derive(Clone, Copy, Debug)]
 pub struct Kept<'a> {
-    pub value: Option<&'a Bytes>,
+    pub value: Option<&'a SharedBytes>,
     pub versions: &'a [Version],
     pub writes: &'a [Row],
     pub steps: &'a [Step],
 }
 
 /// The bytes that the row writes, where the vector sees it.
-fn seen_write<'a>(row: &'a Row, by: &Vts) -> Option<&'a Bytes>
+fn seen_write<'a>(row: &'a Row, by: &Vts) -> Option<&'a SharedBytes>
     ensures { option_copied result ≡ seen_bytes by.now row.entry.now }
 {
     if !by.sees(row.version) {
@@ -31,7 +31,7 @@ fn seen_write<'a>(row: &'a Row, by: &Vts) -> Option<&'a Bytes>
 }
 
 /// What the rows of the object, seen by the vector, leave it: the bytes of the last write.
-pub fn last_seen<'a>(rows: &'a [Row], oid: ObjId, by: &Vts) -> Option<&'a Bytes>
+pub fn last_seen<'a>(rows: &'a [Row], oid: ObjId, by: &Vts) -> Option<&'a SharedBytes>
     requires { AreOf oid rows.now }
     ensures { option_copied result ≡ value_of oid (seen_updates by.now rows.entry.now) }
 {

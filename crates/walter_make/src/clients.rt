@@ -4,7 +4,7 @@ ghost use Rattle.walter_make.specs.Made.{frame, bytes_of, made_clients};
 
 use crate::draws::{CLIENTS, ClientCall};
 use std::alloc::Global;
-use walter_base::{Bytes, Mem, Request, SiteId};
+use walter_base::{Mem, Request, SharedBytes, SiteId};
 use walter_request::encode;
 use walter_scenario::Client;
 
@@ -26,7 +26,7 @@ pub(crate) fn clients_of(alloc: Global, calls: &[ClientCall]) -> Mem<Vec<Client>
 }
 
 // What a client sends: the frames of its calls.
-fn bytes_of(alloc: Global, calls: &[ClientCall], client: u32) -> Mem<Bytes>
+fn bytes_of(alloc: Global, calls: &[ClientCall], client: u32) -> Mem<SharedBytes>
     requires { All (λ call. FitsFrame call.request) calls.now }
     ensures { IfOk result (λ bytes. bytes ≡ bytes_of calls.now client) }
 {
@@ -36,7 +36,7 @@ fn bytes_of(alloc: Global, calls: &[ClientCall], client: u32) -> Mem<Bytes>
             push_frame(&mut bytes, &call.request)?;
         }
     }
-    Ok(Bytes::from(bytes))
+    Ok(SharedBytes::from_vec(bytes)?)
 }
 
 #[tactic(auto, unfolding(walter_fields::specs::Spellings::number_spelled))]

@@ -6,7 +6,7 @@ ghost use Rattle.walter_make.specs.Calls.{request_of, object_at, read_of, update
 use rand_core::utils::NextWord;
 use rand_pcg::Lcg64Xsh32;
 use std::alloc::Global;
-use walter_base::{Bytes, Mem, ObjId, Request};
+use walter_base::{Mem, ObjId, Request, SharedBytes};
 use walter_request::size_of_spelling;
 
 // What a client asks that called so often before.
@@ -60,7 +60,7 @@ fn update_of(alloc: Global, oid: ObjId, word: u32) -> Mem<Request>
     size_of_spelling();
     let id = u64::from(word / 2 % 8);
     if oid.container % 2 == 1 {
-        Ok(Request::Write(oid, Bytes::from_slice(alloc, &word.to_be_bytes())?))
+        Ok(Request::Write(oid, SharedBytes::from_slice(alloc, &word.to_be_bytes())?))
     } else if word % 2 == 1 {
         Ok(Request::SetDel(oid, id))
     } else {

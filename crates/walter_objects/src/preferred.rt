@@ -1,26 +1,15 @@
-ghost use Rattle.std.specs.Prelude.{◌≡◌, map, IfOk};
+ghost use Rattle.std.specs.Prelude.{◌≡◌, IfOk};
 ghost use Rattle.walter_base.specs.Names.{same_site};
-ghost use Rattle.walter_objects.specs.Preferred.{home, homes_of, objects_among, participants_among, are_local_among, is_home_among, takes_part};
+ghost use Rattle.walter_objects.specs.Preferred.{home, objects_among, participants_among, are_local_among, is_home_among, takes_part};
 
 use std::alloc::Global;
-use walter_base::{Catalog, Mem, ObjId, Objects, SiteId, Sites, Update};
+use walter_base::{Catalog, Mem, ObjId, Objects, SiteId, Sites};
 
 /// The site at which the object is preferred, and the first one where its container isn't in the catalog.
-fn home(catalog: &Catalog, oid: ObjId) -> SiteId
+pub fn home(catalog: &Catalog, oid: ObjId) -> SiteId
     ensures { result ≡ home catalog.now oid }
 {
     catalog.preferred(oid).unwrap_or(SiteId(0))
-}
-
-/// By update, the site at which what it changes is preferred.
-pub fn homes(alloc: Global, catalog: &Catalog, updates: &[Update]) -> Mem<Sites>
-    ensures { IfOk result (λ sites. sites ≡ homes_of catalog.now updates.now) }
-{
-    let mut sites = Vec::new(alloc);
-    for update in updates {
-        sites.push(home(catalog, update.object()))?;
-    }
-    Ok(Sites::from(sites))
 }
 
 /// Those of the objects that are preferred at the site.

@@ -2,10 +2,14 @@ ghost use Rattle.std.specs.Prelude.{◌≡◌};
 ghost use Rattle.std.specs.Option.{option_copied};
 ghost use Rattle.walter_base.specs.Values.{value_from};
 
-use walter_base::{Bytes, ObjId, Update};
+use walter_base::{ObjId, SharedBytes, Update};
 
 /// What a regular object that held `base` holds after the updates.
-pub fn value<'a>(base: Option<&'a Bytes>, updates: &'a [Update], oid: ObjId) -> Option<&'a Bytes>
+pub fn value<'a>(
+    base: Option<&'a SharedBytes>,
+    updates: &'a [Update],
+    oid: ObjId,
+) -> Option<&'a SharedBytes>
     ensures { option_copied result ≡ value_from (option_copied base.entry) oid updates.entry.now }
 {
     let mut value = base;

@@ -3,7 +3,7 @@ ghost use Rattle.walter_cell.specs.Lines.{IsLine};
 ghost use Rattle.walter_cluster.specs.Builds.{AreUnread};
 
 use std::alloc::Global;
-use walter_base::{Bytes, Mem, NoMemory};
+use walter_base::{Mem, NoMemory, SharedBytes};
 use walter_conn::Conn;
 use walter_scenario::Client;
 use walter_stream::{BytesSource, NullSink};
@@ -25,11 +25,10 @@ pub fn open_lines(alloc: Global, clients: &[Client]) -> Mem<Vec<Line>>
 }
 
 // A connection with a client that sends these bytes.
-fn open_line(alloc: Global, bytes: &Bytes) -> Mem<Line>
+fn open_line(alloc: Global, bytes: &SharedBytes) -> Mem<Line>
     ensures { IfOk result (λ line. IsLine bytes.now [] line) }
 {
-    let bytes = bytes.clone()?.into_vec();
-    match Conn::new(alloc, BytesSource::from(bytes), NullSink) {
+    match Conn::new(alloc, BytesSource::from(bytes.share()?), NullSink) {
         Ok(conn) => Ok(Line::new(conn)),
         Err(_) => Err(NoMemory),
     }

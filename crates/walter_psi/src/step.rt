@@ -1,10 +1,10 @@
-use walter_base::{Bytes, Cause, Counts, ObjId, SiteId, Tid, Update, Updates, Version};
+use walter_base::{Cause, Counts, ObjId, SharedBytes, SiteId, Tid, Update, Updates, Version};
 
 /// What a read answered.
 #[derive(Debug, Drop)]
 pub enum Answer {
     /// The value of a regular object, where it has one.
-    Value(Option<Bytes>),
+    Value(Option<SharedBytes>),
     /// The counts of a set.
     Counts(Counts),
     /// The count of one id of a set.

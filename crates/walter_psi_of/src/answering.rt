@@ -9,7 +9,9 @@ ghost use Rattle.walter_rules.specs.Standing.{Standing};
 ghost use Rattle.walter_psi_of.specs.Accounts.{session_named, IsToldOf};
 
 use crate::account::Account;
-use walter_base::{Bytes, Call, Counts, Level as HowFar, Mem, Reply, Request, SiteId, Tid, Update};
+use walter_base::{
+    Call, Counts, Level as HowFar, Mem, Reply, Request, SharedBytes, SiteId, Tid, Update,
+};
 use walter_psi::{Answer, Level, Notice, Step};
 use walter_rules::{Event, Input, Outcome};
 
@@ -77,7 +79,7 @@ fn update_step(call: &Call, tid: Tid) -> Mem<Option<Step>>
     }
 }
 
-fn value_step(value: &Option<Bytes>, call: &Call, tid: Tid) -> Mem<Option<Step>>
+fn value_step(value: &Option<SharedBytes>, call: &Call, tid: Tid) -> Mem<Option<Step>>
     ensures { IfOk result (λ step. option_to_list step ≡ saw call.now value.now (session_named tid)) }
 {
     match call {

@@ -7,7 +7,7 @@ ghost use Rattle.walter_reply.specs.Stops.{EndsWith, StopsBehind, StopsAt};
 
 use crate::fault::{ReplyFault, Stop};
 use std::alloc::Global;
-use walter_base::{Bytes, Cause, Counts, Level, Refusal, Reply};
+use walter_base::{Cause, Counts, Level, Refusal, Reply, SharedBytes};
 use walter_fields::Cursor;
 use walter_names::{read_object, read_tid, read_version};
 
@@ -28,7 +28,7 @@ fn read_value(alloc: Global, cursor: &mut Cursor) -> Result<Reply, Stop>
         0 => Ok(Reply::Value(None)),
         1 => {
             let bytes = cursor.block()?;
-            Ok(Reply::Value(Some(Bytes::from_slice(alloc, bytes)?)))
+            Ok(Reply::Value(Some(SharedBytes::from_slice(alloc, bytes)?)))
         }
         _ => Err(Stop::Unknown(1)),
     }

@@ -5,7 +5,7 @@ ghost use Rattle.walter_request.specs.declared.fault.Stop.TheVariants.{Behind};
 
 use crate::fault::{RequestFault, Stop};
 use std::alloc::Global;
-use walter_base::{Bytes, Request};
+use walter_base::{Request, SharedBytes};
 use walter_fields::Cursor;
 use walter_names::{read_member, read_object, read_tid};
 
@@ -37,7 +37,7 @@ fn read_write(alloc: Global, cursor: &mut Cursor) -> Result<Request, Stop>
     let oid = read_object(cursor)?;
     let bytes = cursor.block()?;
     expect_end(cursor)?;
-    Ok(Request::Write(oid, Bytes::from_slice(alloc, bytes)?))
+    Ok(Request::Write(oid, SharedBytes::from_slice(alloc, bytes)?))
 }
 
 /// What stands behind the operation SetAdd.

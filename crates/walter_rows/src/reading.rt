@@ -11,7 +11,7 @@ ghost use Rattle.walter_rules.specs.declared.held.Held.{Held};
 
 use std::alloc::Global;
 use std::collections::BTreeMap;
-use walter_base::{Bytes, Counts, Mem, ObjId, Update, Vts};
+use walter_base::{Counts, Mem, ObjId, SharedBytes, Update, Vts};
 use walter_cset::Totals;
 use walter_history::History;
 
@@ -21,7 +21,7 @@ pub fn value_read<'a>(
     snapshot: &Vts,
     updates: &'a [Update],
     oid: ObjId,
-) -> Option<&'a Bytes>
+) -> Option<&'a SharedBytes>
     requires { Covers snapshot.now history.now.floor }
     ensures { (catalog : Catalog) (log : List Held) → AreRowsOf catalog log history.entry.now
         → option_copied result ≡ value_of oid (seen_in snapshot.now log ++ updates.entry.now) }

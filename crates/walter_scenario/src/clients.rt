@@ -13,7 +13,7 @@ use crate::values::{items_of, pair_of, string_of, whole_of};
 use hex::FromHexError;
 use serde_json::Value;
 use std::alloc::Global;
-use walter_base::{Bytes, Mem, NoMemory, SiteId};
+use walter_base::{Mem, NoMemory, SharedBytes, SiteId};
 
 /// The site and the hex text of a client.
 fn site_and_hex_of(value: &Value) -> Option<(SiteId, &str)>
@@ -28,13 +28,13 @@ fn site_and_hex_of(value: &Value) -> Option<(SiteId, &str)>
 }
 
 /// The bytes of the hex text, where it is one.
-fn bytes_of(alloc: Global, hex: &str) -> Mem<Option<Bytes>>
+fn bytes_of(alloc: Global, hex: &str) -> Mem<Option<SharedBytes>>
     ensures { IfOk result (λ found. MatchOption found
         ((bytes : List ℕ) → decode_of hex.now ≢ Ok bytes)
         (λ bytes. decode_of hex.now ≡ Ok bytes)) }
 {
     match hex::decode(alloc, hex) {
-        Ok(bytes) => Ok(Some(Bytes::from(bytes))),
+        Ok(bytes) => Ok(Some(SharedBytes::from_vec(bytes)?)),
         Err(FromHexError::OutOfMemory) => Err(NoMemory),
         Err(_) => Ok(None),
     }

@@ -47,10 +47,11 @@ fn scenario_of(alloc: Global, parts: Parts<'_>) -> Result<Scenario, ReadFault>
     scenario_on(alloc, grounds, parts)
 }
 
-/// The scenario that the bytes spell. Where they spell none, it is the first place that is wrong.
-pub fn read(alloc: Global, bytes: &[u8]) -> Result<Scenario, ReadFault>
-    ensures ok { IfOk result (IsReading bytes.now) }
-    ensures fault { IfErr result (IsReadFault bytes.now) }
+/// The scenario that the bytes spell. Where they spell none, it is the first place that is wrong. The bytes are let go
+/// before what the clients send is made of their text: at no time are there all three.
+pub fn read(alloc: Global, bytes: Vec<u8>) -> Result<Scenario, ReadFault>
+    ensures ok { IfOk result (IsReading bytes.items) }
+    ensures fault { IfErr result (IsReadFault bytes.items) }
 {
     if bytes.len() > LONGEST_TEXT {
         return Err(ReadFault::from(Place::TooLong));

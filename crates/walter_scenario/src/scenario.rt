@@ -1,5 +1,5 @@
 use crate::lists::{Arms, Clients, Steps};
-use walter_base::{Bytes, Catalog, SiteId};
+use walter_base::{Catalog, SharedBytes, SiteId};
 use walter_link::Link;
 
 /// The most bytes that a scenario may have.
@@ -54,7 +54,7 @@ pub const LAST_ARMED: u64 = 1_000_000;
 #[derive(Debug, Drop)]
 pub struct Client {
     pub site: SiteId,
-    pub bytes: Bytes,
+    pub bytes: SharedBytes,
 }
 
 /// A fault of a site's disk that is to come: at its `nth` call, counted from 1 from when it is armed. The choice says

@@ -27,14 +27,14 @@ fn json_of(alloc: Global, text: &str) -> Result<Value, ReadFault>
     }
 }
 
-/// The value that the bytes are as JSON.
-pub fn value_of(alloc: Global, bytes: &[u8]) -> Result<Value, ReadFault>
+/// The value that the bytes are as JSON. The bytes are let go.
+pub fn value_of(alloc: Global, bytes: Vec<u8>) -> Result<Value, ReadFault>
     ensures ok { IfOk result
-        (λ value. IsUtf8 bytes.now × (reading bytes.now ≡ Some (view value))) }
+        (λ value. IsUtf8 bytes.items × (reading bytes.items ≡ Some (view value))) }
     ensures fault { IfErr result (IfRefusedAt (λ place. (place ≡ Place.Json)
-        × ((value : Data) → IsUtf8 bytes.now → reading bytes.now ≢ Some value))) }
+        × ((value : Data) → IsUtf8 bytes.items → reading bytes.items ≢ Some value))) }
 {
-    let text = str::from_utf8(bytes).ok().ok_or(Place::Json)?;
+    let text = str::from_utf8(&bytes).ok().ok_or(Place::Json)?;
     json_of(alloc, text)
 }
 

@@ -3,7 +3,7 @@ use walter_tables::{Made, Planned};
 
 /// What is to come of an input, with all that applying it takes: what goes with its record, and the update that the
 /// session of its client gets.
-#[derive(Debug, Drop)]
+#[derive(Drop)]
 pub struct Plan {
     pub planned: Planned,
     pub made: Option<Made>,

@@ -1,30 +1,34 @@
+ghost use Rattle.std.specs.Arc.{arc_slice_items};
 ghost use Rattle.std.specs.Prelude.{◌≡◌, ◌<◌, ◌≤◌, length, take, min, Some, Ok, IfOk, OnOk, OnErr};
 ghost use Rattle.walter_stream.specs.Streams.{AtEnd, TakesFront};
 
 use crate::source::{Failed, Source};
+use std::alloc::Global;
 use std::marker::Model;
+use std::sync::ArcSlice;
 
-/// A source over bytes in memory that never fails. Contracts see what is left.
+/// A source over bytes in memory that never fails; others may have the same bytes. Contracts see what is left.
 #[derive(Drop)]
 pub struct BytesSource {
-    bytes: Vec<u8>,
+    bytes: ArcSlice<u8, Global>,
     taken: usize,
 }
 
 impl Model for BytesSource {
-    ghost use Rattle.std.specs.Prelude.{◌≤◌, ℕ, List, drop, vec_len};
+    ghost use Rattle.std.specs.Arc.{arc_slice_items};
+    ghost use Rattle.std.specs.Prelude.{◌≤◌, ℕ, List, drop, length};
 
     ghost Value = { List ℕ };
 
-    ghost view = { λ s. drop s.taken s.bytes.items };
+    ghost view = { λ s. drop s.taken (arc_slice_items s.bytes) };
 
-    ghost invariant = { λ s. s.taken ≤ vec_len s.bytes };
+    ghost invariant = { λ s. s.taken ≤ length (arc_slice_items s.bytes) };
 }
 
-impl From<Vec<u8>> for BytesSource {
-    ghost from_gives = { λ v s. s ≡ v.items };
+impl From<ArcSlice<u8, Global>> for BytesSource {
+    ghost from_gives = { λ v s. s ≡ arc_slice_items v };
 
-    fn from(bytes: Vec<u8>) -> BytesSource {
+    fn from(bytes: ArcSlice<u8, Global>) -> BytesSource {
         BytesSource { bytes, taken: 0 }
     }
 }

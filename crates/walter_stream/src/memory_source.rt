@@ -1,10 +1,13 @@
+ghost use Rattle.std.specs.Arc.{arc_slice_items};
 ghost use Rattle.std.specs.Prelude.{◌≡◌, ◌↔◌, ◌+◌, ◌<◌, ◌≤◌, length, take, min, Some, IsErr, IfOk, OnOk, OnErr};
 ghost use Rattle.walter_faults.specs.Schedules.{planned, NextFails, AddsCall};
 ghost use Rattle.walter_stream.specs.Streams.{AtEnd, TakesFront};
 
 use crate::bytes_source::BytesSource;
 use crate::source::{Failed, Source};
+use std::alloc::Global;
 use std::marker::Model;
+use std::sync::ArcSlice;
 use walter_faults::Schedule;
 
 /// A source over bytes in memory, some of whose calls fail.
@@ -24,8 +27,8 @@ impl Model for MemorySource {
 
 impl MemorySource {
     /// The calls whose numbers are in `failing`, counted from 1, fail and take nothing.
-    pub fn new(bytes: Vec<u8>, failing: Vec<u64>) -> MemorySource
-        ensures left { result.left ≡ bytes.items }
+    pub fn new(bytes: ArcSlice<u8, Global>, failing: Vec<u64>) -> MemorySource
+        ensures left { result.left ≡ arc_slice_items bytes }
         ensures calls { result.calls ≡ planned failing.items }
     {
         MemorySource {

@@ -31,12 +31,15 @@ objects_here catalog i updates = objects_among catalog i (objects_of updates)
 abbrev pub asked_of : Catalog → SiteId → List Update → List SiteId
 asked_of catalog i updates = participants_among catalog i (objects_of updates)
 
--- the sites that go with a record: of an own commit the preferred ones of what it changed; of a slow commit those that
--- are asked
-abbrev pub sites_for : Catalog → SiteId → Record → List SiteId
-sites_for catalog i (Own seq tx) = homes_of catalog tx.updates
-sites_for catalog i (SlowBegin slow tx) = asked_of catalog i tx.updates
-sites_for catalog i rec = []
+-- the sites that go with a record: of an own commit the preferred ones of what it changed
+abbrev pub preferred_for : Catalog → Record → List SiteId
+preferred_for catalog (Own seq tx) = homes_of catalog tx.updates
+preferred_for catalog rec = []
+
+-- and of a slow commit those that are asked
+abbrev pub asked_for : Catalog → SiteId → Record → List SiteId
+asked_for catalog i (SlowBegin slow tx) = asked_of catalog i tx.updates
+asked_for catalog i rec = []
 
 -- and the objects: of a slow commit those that are locked here
 abbrev pub objects_for : Catalog → SiteId → Record → List ObjId
@@ -45,7 +48,8 @@ objects_for catalog i rec = []
 
 pub record IsMadeFor (catalog : Catalog) (i : SiteId) (rec : Record) (made : Made) : Type 0 where
   pub rows : made.rows.items ≡ rows_told rec
-  pub sites : made.sites ≡ sites_for catalog i rec
+  pub preferred : made.preferred ≡ preferred_for catalog rec
+  pub asked : made.asked ≡ asked_for catalog i rec
   pub objects : made.objects ≡ objects_for catalog i rec
 
 -- a record that brings something of another site is of one of the catalog

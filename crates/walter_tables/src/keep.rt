@@ -66,7 +66,7 @@ impl Tables {
         self.log.append(Held { seq, tx });
         append_all(&mut self.history, made.rows);
         self.spread.commit_own();
-        self.durable.commit_own(made.sites);
+        self.durable.commit_own(made.preferred);
         commit_decided(&mut self.slow, slow);
         self.locks.unlock(self.site, slow);
     }
@@ -152,7 +152,7 @@ impl Tables {
         ensures catalog { catalog_of self.new ≡ catalog_of self.old }
     {
         self.locks.lock(self.site, slow, tx.tid, made.objects);
-        self.slow.begin(slow, tx, made.sites);
+        self.slow.begin(slow, tx, made.asked);
     }
 
     fn keep_ended(&mut self, slow: u64)

@@ -1,10 +1,12 @@
 use walter_base::{Objects, Row, Sites};
+use walter_durable::PreferredSites;
 
 /// What goes with a record, made before it is kept, so that keeping it takes no memory: the rows of its transaction, the
-/// sites that are asked or preferred, and the objects that are locked here.
-#[derive(Debug, Drop)]
+/// preferred sites of what it changed, the sites that are asked, and the objects that are locked here.
+#[derive(Drop)]
 pub struct Made {
     pub rows: Vec<Row>,
-    pub sites: Sites,
+    pub preferred: PreferredSites,
+    pub asked: Sites,
     pub objects: Objects,
 }

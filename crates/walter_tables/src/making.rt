@@ -4,7 +4,7 @@ ghost use Rattle.walter_base.specs.declared.message.Record.{Record as Written};
 ghost use Rattle.walter_log.specs.Logged.{room_of};
 ghost use Rattle.walter_rows.specs.Rows.{HaveRoom};
 ghost use Rattle.walter_rules.specs.Knowledge.{Knowledge};
-ghost use Rattle.walter_tables.specs.Keeping.{IsMadeFor, HasRoomFor, GoesOn, IsKnownSite, updates_at, sites_for, objects_for, objects_here, asked_of};
+ghost use Rattle.walter_tables.specs.Keeping.{IsMadeFor, HasRoomFor, GoesOn, IsKnownSite, updates_at, preferred_for, asked_for, objects_for, objects_here, asked_of};
 ghost use Rattle.walter_tables.specs.Sites.{values_of, site_of, catalog_of, Stands};
 
 use crate::made::Made;
@@ -12,7 +12,8 @@ use crate::tables::Tables;
 use std::alloc::Global;
 use walter_base::{Mem, Objects, Record, SiteId, Sites, Tx, Updates};
 use walter_cset::{close_all, open_all};
-use walter_objects::{homes, objects_at, objects_of, participants};
+use walter_durable::PreferredSites;
+use walter_objects::{objects_at, objects_of, participants};
 use walter_rows::{make_room, rows_told};
 
 #[tactic(auto, unfolding(crate::specs::Sites::values_of, crate::specs::Sites::site_of, crate::specs::Sites::catalog_of))]
@@ -25,26 +26,29 @@ impl Tables {
         let rows = rows_told(alloc, rec)?;
         match rec {
             Record::Own(_, tx) => {
-                let sites = homes(alloc, &self.catalog, tx.updates.as_slice())?;
+                let preferred = self.homes(tx.updates.as_slice());
                 Ok(Made {
                     rows,
-                    sites,
+                    preferred,
+                    asked: Sites::from(Vec::new(alloc)),
                     objects: Objects::from(Vec::new(alloc)),
                 })
             }
             Record::SlowBegin(_, tx) => {
                 let written = objects_of(alloc, tx.updates.as_slice())?;
-                let sites = participants(alloc, &self.catalog, self.site, written.as_slice())?;
+                let asked = participants(alloc, &self.catalog, self.site, written.as_slice())?;
                 let objects = objects_at(alloc, &self.catalog, self.site, written.as_slice())?;
                 Ok(Made {
                     rows,
-                    sites,
+                    preferred: PreferredSites::none(),
+                    asked,
                     objects,
                 })
             }
             _ => Ok(Made {
                 rows,
-                sites: Sites::from(Vec::new(alloc)),
+                preferred: PreferredSites::none(),
+                asked: Sites::from(Vec::new(alloc)),
                 objects: Objects::from(Vec::new(alloc)),
             }),
         }
@@ -78,7 +82,7 @@ impl Tables {
                 self.locks.reserve(count)
             }
             Record::SlowBegin(_, _) => {
-                let asked = made.sites.as_slice().len() as u64;
+                let asked = made.asked.as_slice().len() as u64;
                 let count = made.objects.as_slice().len() as u64;
                 self.slow.reserve(asked)?;
                 self.locks.reserve(count)

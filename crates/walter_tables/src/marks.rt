@@ -11,7 +11,9 @@ ghost use Rattle.walter_rules.specs.Records.{CanFollow};
 ghost use Rattle.walter_tables.specs.Sites.{values_of, site_of, catalog_of, Stands};
 
 use crate::tables::Tables;
-use walter_base::{SiteId, Sites};
+use walter_base::{SiteId, Update};
+use walter_durable::PreferredSites;
+use walter_objects::home;
 
 #[tactic(auto, unfolding(crate::specs::Sites::values_of, crate::specs::Sites::site_of, crate::specs::Sites::catalog_of))]
 impl Tables {
@@ -35,8 +37,19 @@ impl Tables {
         self.durable.visible_mark()
     }
 
+    /// By update, the site at which what it changes is preferred.
+    pub(crate) fn homes(&self, updates: &[Update]) -> PreferredSites
+        ensures { result ≡ homes_of (catalog_of self.now) updates.now }
+    {
+        let mut sites = PreferredSites::none();
+        for update in updates {
+            sites.push(home(&self.catalog, update.object()));
+        }
+        sites
+    }
+
     /// How many would be durable, with one more that changed objects of these preferred sites.
-    pub(crate) fn durable_mark_with_own(&self, homes: &Sites) -> u64
+    pub(crate) fn durable_mark_with_own(&self, homes: &PreferredSites) -> u64
         ensures mark { (K : Knowledge) (seq : ℕ) (tx : Tx) → homes.now ≡ homes_of (catalog_of self.now) tx.updates
             → Stands self.now K → CanFollow (catalog_of self.now) (site_of self.now) K (Written.Own seq tx)
             → result ≡ durable_mark (catalog_of self.now) (site_of self.now)

@@ -21,7 +21,6 @@ use crate::deliveries::{passes, takes};
 use crate::plan::Planned;
 use crate::tables::Tables;
 use walter_base::{Answer, MaybeRecord, Mem, NoMemory, Record, SiteId, Tx};
-use walter_objects::homes;
 use walter_rules::Outcome;
 use walter_slow::Verdict;
 
@@ -44,7 +43,7 @@ impl Tables {
             → expected_of p ≡ commits_own (catalog_of self.now) (site_of self.now) K seq tx outcome) }
         ensures on { IfOk result (λ p. IfSome p.rec (GoesOn self.now)) }
     {
-        let homes = homes(self.alloc, &self.catalog, tx.updates.as_slice())?;
+        let homes = self.homes(tx.updates.as_slice());
         let before = self.durable_mark();
         let now = self.durable_mark_with_own(&homes);
         let sends = self.own_sends(seq, &tx, before, now)?;

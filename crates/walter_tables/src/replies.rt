@@ -13,7 +13,7 @@ ghost use Rattle.walter_tables.specs.Sites.{values_of, site_of, catalog_of};
 
 use crate::sizes::{MOST_BYTES, MOST_SHOWN, SPELLS_COUNT, SPELLS_WRITE, has_place};
 use crate::tables::Tables;
-use walter_base::{Bytes, Cause, Kind, Mem, NoMemory, ObjId, Refusal, Reply, Tid};
+use walter_base::{Cause, Kind, Mem, NoMemory, ObjId, Refusal, Reply, SharedBytes, Tid};
 use walter_rows::{count_read, counts_read, value_read};
 use walter_session::Session;
 
@@ -91,7 +91,7 @@ impl Tables {
         Ok(Reply::Value(value))
     }
 
-    pub(crate) fn write_reply(&self, client: u32, oid: ObjId, value: &Bytes) -> Reply
+    pub(crate) fn write_reply(&self, client: u32, oid: ObjId, value: &SharedBytes) -> Reply
         ensures { (K : Knowledge) → answers result ≡ rule_by self.now K client (Asked.Write oid value.now) }
     {
         let Some(session) = self.open_session(client) else {

@@ -229,7 +229,7 @@ fn texts(alloc: Global) -> Result<Vec<Vec<u8>>, Fail> {
 
 /// The scenario that the bytes spell, or the place that is wrong, as `Debug` shows it.
 fn reading(alloc: Global, bytes: &[u8]) -> Result<Result<String, String>, Fail> {
-    match read(alloc, bytes) {
+    match read(alloc, bytes.to_vec(alloc)?) {
         Ok(scenario) => Ok(Ok(format!(in alloc; "{scenario:?}")?)),
         Err(ReadFault::Refused { place, .. }) => Ok(Err(format!(in alloc; "{place:?}")?)),
         Err(fault) => Err(fault.into()),

@@ -36,7 +36,7 @@ pub(crate) static SPELLINGS: [(&str, &[u8]); 38] = [
     ),
     ("Value(None)", &[0x81, 0]),
     (
-        "Value(Some(Bytes { items: [104, 101, 108, 108, 111] }))",
+        "Value(Some(SharedBytes { items: [104, 101, 108, 108, 111] }))",
         &HELLO,
     ),
     ("Done", &[0x82]),

@@ -36,11 +36,11 @@ pub(crate) static SPELLINGS: [(&str, &[u8]); 12] = [
     ("Start", &[1]),
     ("Read(ObjId { container: 1, local: 5 })", &READ),
     (
-        "Write(ObjId { container: 1, local: 5 }, Bytes { items: [104, 101, 108, 108, 111] })",
+        "Write(ObjId { container: 1, local: 5 }, SharedBytes { items: [104, 101, 108, 108, 111] })",
         &WRITE,
     ),
     (
-        "Write(ObjId { container: 1, local: 5 }, Bytes { items: [] })",
+        "Write(ObjId { container: 1, local: 5 }, SharedBytes { items: [] })",
         &[3, 0, 0, 0, 1, 0, 0, 0, 0, 0, 0, 0, 5, 0, 0, 0, 0],
     ),
     ("SetAdd(ObjId { container: 1, local: 5 }, 9)", &SET_ADD),

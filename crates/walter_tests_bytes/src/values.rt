@@ -1,6 +1,7 @@
 use std::test::Fail;
 use walter_base::{
-    BadFrame, Bytes, Cause, Counts, Level, NoMemory, ObjId, Refusal, Reply, Request, SiteId, Tid,
+    BadFrame, Cause, Counts, Level, NoMemory, ObjId, Refusal, Reply, Request, SharedBytes, SiteId,
+    Tid,
 };
 
 const OBJECT: ObjId = ObjId {
@@ -49,7 +50,7 @@ const REPLIES: [Reply; 5] = [
 
 #[test]
 fn requests_and_replies_are_copied(rt: HostRuntime) -> Result<(), Fail> {
-    let bytes = Bytes::from_slice(rt.alloc(), b"hello")?;
+    let bytes = SharedBytes::from_slice(rt.alloc(), b"hello")?;
     copy_each(&REQUESTS)?;
     copy_each(&[Request::Write(OBJECT, bytes.clone()?)])?;
     copy_each(&REPLIES)?;

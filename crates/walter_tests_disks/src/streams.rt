@@ -1,5 +1,6 @@
 //! Streams over readers and writers of std. What they give and take is told by no clause.
 use std::io::{self, ErrorKind, Read, Write};
+use std::sync::ArcSlice;
 use std::test::Fail;
 use walter_stream::{
     Failed, MemorySink, MemorySource, NullSink, ReadError, StdSink, StdSource, read_to_end,
@@ -67,11 +68,12 @@ fn a_fault_of_std_is_a_fault(rt: HostRuntime) {
 }
 
 #[test]
-fn streams_go_to_threads(rt: HostRuntime) {
-    let none = Vec::new(rt.alloc());
+fn streams_go_to_threads(rt: HostRuntime) -> Result<(), Fail> {
+    let none = ArcSlice::from_slice(rt.alloc(), b"")?;
     goes_to_a_thread(&MemorySource::new(none, Vec::new(rt.alloc())));
     goes_to_a_thread(&StdSource::new(Broken));
     goes_to_a_thread(&StdSink::new(Broken));
+    Ok(())
 }
 
 #[test]

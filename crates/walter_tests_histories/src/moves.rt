@@ -1,6 +1,6 @@
 //! Histories in short: moves, and the steps that they stand for.
 use std::alloc::Global;
-use walter_base::{Bytes, Cause, Counts, Mem, ObjId, SiteId, Tid, Update, Updates};
+use walter_base::{Cause, Counts, Mem, ObjId, SharedBytes, SiteId, Tid, Update, Updates};
 use walter_psi::{Answer, Notice, Step, first_illegal};
 
 /// A step without what has to be allocated. A commit is of the updates done so far.
@@ -24,9 +24,9 @@ pub enum Move {
 
 use Move::*;
 
-fn value(alloc: Global, byte: Option<u8>) -> Mem<Option<Bytes>> {
+fn value(alloc: Global, byte: Option<u8>) -> Mem<Option<SharedBytes>> {
     match byte {
-        Some(byte) => Ok(Some(Bytes::from_slice(alloc, &[byte])?)),
+        Some(byte) => Ok(Some(SharedBytes::from_slice(alloc, &[byte])?)),
         None => Ok(None),
     }
 }
@@ -48,7 +48,10 @@ fn step_of(alloc: Global, steps: &[Step], next: Move) -> Mem<Step> {
         Start(x) => Step::Start(x, x.site),
         StartAt(x, site) => Step::Start(x, site),
         Write(x, oid, byte) => {
-            Step::Op(x, Update::Write(oid, Bytes::from_slice(alloc, &[byte])?))
+            Step::Op(
+                x,
+                Update::Write(oid, SharedBytes::from_slice(alloc, &[byte])?),
+            )
         }
         Add(x, oid, id) => Step::Op(x, Update::Add(oid, id)),
         Del(x, oid, id) => Step::Op(x, Update::Del(oid, id)),

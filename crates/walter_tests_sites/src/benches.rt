@@ -4,6 +4,7 @@ ghost use Rattle.walter_scenario.specs.declared.scenario.Client.{Client};
 
 use anyhow::{Result, bail};
 use std::alloc::Global;
+use std::sync::ArcSlice;
 use walter_cell::Line;
 use walter_cluster::{Bench, Closed, build};
 use walter_conn::Conn;
@@ -24,7 +25,7 @@ const TURNS: [u32; 6] = [0, 1, 1, 0, 1, 0];
 /// A connection with a client that sends these bytes, of a source that fails at these reads, to a sink with room for so
 /// many.
 fn line(alloc: Global, bytes: &[u8], failing: Vec<u64>, room: usize) -> Result<MemoryLine> {
-    let source = MemorySource::new(bytes.to_vec(alloc)?, failing);
+    let source = MemorySource::new(ArcSlice::from_slice(alloc, bytes)?, failing);
     let sink = MemorySink::with_room(alloc, room, Vec::new(alloc))?;
     match Conn::new(alloc, source, sink) {
         Ok(conn) => Ok(Line::new(conn)),
@@ -111,7 +112,7 @@ fn push_outcomes(alloc: Global, said: &mut String, trails: &[Trail]) -> Result<(
 /// What the turns of the two clients of a scenario come to, what their sinks hold then, and what the trails say. The
 /// source of the first client fails at these reads.
 pub(crate) fn answers_and_held(alloc: Global, failing: Vec<u64>, text: &str) -> Result<String> {
-    let Ok(scenario) = read(alloc, text.as_bytes()) else {
+    let Ok(scenario) = read(alloc, text.as_bytes().to_vec(alloc)?) else {
         bail!("no scenario");
     };
     let clients = scenario.clients.as_slice().len();

@@ -3,7 +3,7 @@ use crate::playing::legal_history;
 use crate::texts::cut;
 use anyhow::Result;
 use std::alloc::Global;
-use std::sync::Wait;
+use std::sync::{ArcSlice, Wait};
 use std::thread::Threads;
 use walter_base::Mem;
 use walter_cli::{Ended, Fault, top};
@@ -82,7 +82,7 @@ pub(crate) fn end(
     scenario: &str,
 ) -> Result<String> {
     let alloc = rt.alloc();
-    let bytes = scenario.as_bytes().to_vec(alloc)?;
+    let bytes = ArcSlice::from_slice(alloc, scenario.as_bytes())?;
     let mut source = MemorySource::new(bytes, numbers_given(alloc, given, "reads=")?);
     let failing = numbers_given(alloc, given, "writes=")?;
     let room = list_of(given, "room=").parse().unwrap_or(1_000_000);
@@ -103,7 +103,7 @@ pub(crate) fn end(
 
 /// The scenario that the bytes spell, or what is wrong with them.
 pub(crate) fn reading(alloc: Global, bytes: &[u8]) -> Mem<String> {
-    match read(alloc, bytes) {
+    match read(alloc, bytes.to_vec(alloc)?) {
         Ok(scenario) => cut(alloc, &format!(in alloc; "{scenario:?}")?),
         Err(fault) => Ok(format!(in alloc; "{fault}")?),
     }

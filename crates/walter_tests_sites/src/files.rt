@@ -4,7 +4,7 @@ use anyhow::Result;
 use std::alloc::Global;
 use std::fs::{self, File, Files};
 use std::path::Path;
-use std::sync::Wait;
+use std::sync::{ArcSlice, Wait};
 use std::thread::Threads;
 use walter_base::Mem;
 use walter_cli::{FileFault, top_on_host};
@@ -26,7 +26,7 @@ fn play_once(
     scenario: &str,
 ) -> Result<String> {
     let alloc = rt.alloc();
-    let mut source = BytesSource::from(scenario.as_bytes().to_vec(alloc)?);
+    let mut source = BytesSource::from(ArcSlice::from_slice(alloc, scenario.as_bytes())?);
     let mut sink = MemorySink::with_room(alloc, 1_000_000, Vec::new(alloc))?;
     let (ended, _) = top_on_host(rt, &words_for(alloc, folder)?, &mut source, &mut sink);
     legal_history(alloc, &ended.trails)?;

@@ -32,7 +32,7 @@ impl Flights {
     /// Counts the records that are in flight at the end of a run, whose disks have just the records of its trails, with
     /// those in flight or without them.
     pub(crate) fn count(&mut self, alloc: Global, text: &str, run: Run) -> Result<()> {
-        let Ok(scenario) = read(alloc, text.as_bytes()) else {
+        let Ok(scenario) = read(alloc, text.as_bytes().to_vec(alloc)?) else {
             bail!("no scenario");
         };
         let Run { trails, disks, .. } = run;

@@ -2,7 +2,7 @@
 use crate::racks::KeepingRack;
 use anyhow::{Result, bail};
 use std::alloc::Global;
-use std::sync::Wait;
+use std::sync::{ArcSlice, Wait};
 use std::thread::Threads;
 use walter_cli::{Ended, top};
 use walter_disk_memory::MemoryDisk;
@@ -37,7 +37,7 @@ pub(crate) fn play(
 ) -> Result<Run> {
     let alloc = rt.alloc();
     let words = words_for(alloc, is_traced)?;
-    let mut source = BytesSource::from(scenario.as_bytes().to_vec(alloc)?);
+    let mut source = BytesSource::from(ArcSlice::from_slice(alloc, scenario.as_bytes())?);
     let mut sink = MemorySink::with_room(alloc, 2_000_000, Vec::new(alloc))?;
     let mut rack = KeepingRack::new(alloc);
     let Ended { status, trails, .. } = top(rt, &words, &mut source, &mut sink, &mut rack);

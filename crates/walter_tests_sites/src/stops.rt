@@ -107,7 +107,7 @@ impl Stops {
 }
 
 fn sites_of(alloc: Global, scenario: &str) -> Result<u8> {
-    match read(alloc, scenario.as_bytes()) {
+    match read(alloc, scenario.as_bytes().to_vec(alloc)?) {
         Ok(scenario) => Ok(scenario.catalog.sites),
         Err(_) => bail!("no scenario"),
     }

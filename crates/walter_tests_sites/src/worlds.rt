@@ -81,7 +81,7 @@ fn frames_of(alloc: Global, scenario: &Scenario) -> Mem<Vec<Frames>> {
 
 // The trails of a world to which the same came, or none where an entry can't stand there.
 fn again(alloc: Global, text: &str, merged: &[(SiteId, Entry)]) -> Result<Option<Vec<Trail>>> {
-    let Ok(scenario) = read(alloc, text.as_bytes()) else {
+    let Ok(scenario) = read(alloc, text.as_bytes().to_vec(alloc)?) else {
         bail!("no scenario");
     };
     let mut clients = frames_of(alloc, &scenario)?;

@@ -3,8 +3,8 @@ ghost use Rattle.walter_base.specs.Vectors.{most_sites};
 
 use std::alloc::Global;
 use std::test::Fail;
-use walter_base::{Mem, SiteId, Sites};
-use walter_durable::Durable;
+use walter_base::{Mem, SiteId};
+use walter_durable::{Durable, PreferredSites};
 
 /// How many sites there are, how many may be lost, where two own commits of site 0 are preferred, and what peers have
 /// acknowledged; and how many of the two are durable.
@@ -23,12 +23,13 @@ static ROWS: [(u8, u8, [u8; 2], &[(u8, u64)], u64); 11] = [
 ];
 
 /// Commits one more own commit, of objects that are preferred at the site.
-fn commit(table: &mut Durable, alloc: Global, preferred: u8) -> Mem<()>
+fn commit(table: &mut Durable, preferred: u8) -> Mem<()>
     ensures { table.new.holdings.sites ≡ table.old.holdings.sites }
 {
-    let sites = vec![in alloc; SiteId(preferred)]?;
+    let mut sites = PreferredSites::none();
+    sites.push(SiteId(preferred));
     table.reserve()?;
-    table.commit_own(Sites::from(sites));
+    table.commit_own(sites);
     Ok(())
 }
 
@@ -38,8 +39,8 @@ fn mark(alloc: Global, sites: u8, tolerated: u8, preferred: [u8; 2], acks: &[(u8
     requires fewer { tolerated < sites }
 {
     let mut table = Durable::new(alloc, SiteId(0), sites, tolerated);
-    commit(&mut table, alloc, preferred[0])?;
-    commit(&mut table, alloc, preferred[1])?;
+    commit(&mut table, preferred[0])?;
+    commit(&mut table, preferred[1])?;
     for (peer, got) in acks {
         if *peer < sites {
             table.hear_acknowledged(SiteId(*peer), *got);

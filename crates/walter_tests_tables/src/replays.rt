@@ -6,8 +6,8 @@ ghost use Rattle.walter_tables.specs.Sites.{catalog_of};
 use std::alloc::Global;
 use std::test::Fail;
 use walter_base::{
-    Bytes, Catalog, Kind, Mem, ObjId, Objects, Record, SiteId, Snapshot, Tid, Tx, Update, Updates,
-    Vts,
+    Catalog, Kind, Mem, ObjId, Objects, Record, SharedBytes, SiteId, Snapshot, Tid, Tx, Update,
+    Updates, Vts,
 };
 use walter_tables::{ReplayFault, Tables};
 
@@ -82,7 +82,7 @@ fn tx_of(alloc: Global, site: SiteId, slow: u64, container: u32) -> Mem<Tx>
     ensures { IfOk result (λ tx. (length tx.start ≡ 2) × CanBeSpelled tx) }
 {
     let mut updates = Vec::new(alloc);
-    let value = Bytes::from_slice(alloc, b"v")?;
+    let value = SharedBytes::from_slice(alloc, b"v")?;
     updates.push(Update::Write(object(container), value))?;
     Ok(Tx {
         tid: tid(site, slow),

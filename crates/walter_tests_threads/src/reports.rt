@@ -47,7 +47,7 @@ pub(crate) fn check_report(
     trails: &[Trail],
     written: &[u8],
 ) -> Result<()> {
-    let Ok(scenario) = read(alloc, scenario.as_bytes()) else {
+    let Ok(scenario) = read(alloc, scenario.as_bytes().to_vec(alloc)?) else {
         bail!("no scenario");
     };
     if !have_frames(trails) {

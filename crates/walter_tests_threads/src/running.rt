@@ -2,7 +2,7 @@
 use crate::reports::check_report;
 use anyhow::{Result, bail};
 use std::alloc::Global;
-use std::sync::Wait;
+use std::sync::{ArcSlice, Wait};
 use std::thread::Threads;
 use walter_cli::{Ended, top_in_memory};
 use walter_psi::first_illegal;
@@ -18,7 +18,7 @@ pub(crate) fn run(
 ) -> Result<Vec<Trail>> {
     let alloc = rt.alloc();
     let words = vec![in alloc; String::from_str(alloc, "run")?]?;
-    let mut source = BytesSource::from(scenario.as_bytes().to_vec(alloc)?);
+    let mut source = BytesSource::from(ArcSlice::from_slice(alloc, scenario.as_bytes())?);
     let mut sink = MemorySink::with_room(alloc, 1_000_000, Vec::new(alloc))?;
     let (ended, _rack) = top_in_memory(rt, &words, &mut source, &mut sink);
     let Ended { status, trails, .. } = ended;

@@ -8,7 +8,7 @@ use anyhow::{Result, bail};
 use std::alloc::Global;
 use std::sync::Wait;
 use std::thread::Threads;
-use walter_base::Bytes;
+use walter_base::SharedBytes;
 use walter_cell::Line;
 use walter_cluster::{Bench, Closed, build};
 use walter_conn::Conn;
@@ -25,7 +25,7 @@ type MeetingBench<'a> = Bench<MemoryDisk, MeetingSource<'a>, NullSink>;
 fn scenario_of(alloc: Global, text: &str) -> Result<Scenario>
     ensures { IfOk result IsPlayable }
 {
-    match read(alloc, text.as_bytes()) {
+    match read(alloc, text.as_bytes().to_vec(alloc)?) {
         Ok(scenario) => Ok(scenario),
         Err(_) => bail!("no scenario"),
     }
@@ -34,14 +34,14 @@ fn scenario_of(alloc: Global, text: &str) -> Result<Scenario>
 // A connection with the client of this number, who comes to the meeting.
 fn line<'a>(
     alloc: Global,
-    bytes: &Bytes,
+    bytes: &SharedBytes,
     number: u32,
     meeting: &'a Meeting,
 ) -> Result<MeetingLine<'a>>
     ensures { IfOk result (λ line. IsLine bytes.now [] line) }
 {
     let source = MeetingSource {
-        source: BytesSource::from(bytes.clone()?.into_vec()),
+        source: BytesSource::from(bytes.share()?),
         number,
         meeting,
     };

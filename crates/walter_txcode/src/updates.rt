@@ -9,7 +9,7 @@ ghost use Rattle.walter_txcode.specs.Spelling.{value_spelled, update_spelled, up
 
 use crate::fault::DecodeFault;
 use std::alloc::Global;
-use walter_base::{Bytes, ObjId, Update, Updates};
+use walter_base::{ObjId, SharedBytes, Update, Updates};
 use walter_fields::{Appender, Cursor, Short};
 use walter_names::{read_member, read_object, write_member, write_object};
 
@@ -47,7 +47,7 @@ fn read_update(alloc: Global, cursor: &mut Cursor) -> Result<Update, DecodeFault
     match cursor.u8()? {
         1 => {
             let (oid, bytes) = read_value(cursor)?;
-            Ok(Update::Write(oid, Bytes::from_slice(alloc, bytes)?))
+            Ok(Update::Write(oid, SharedBytes::from_slice(alloc, bytes)?))
         }
         2 => {
             let (oid, id) = read_member(cursor)?;
@@ -72,7 +72,7 @@ fn read_each(alloc: Global, cursor: &mut Cursor, count: u16) -> Result<Vec<Updat
         → length us ≡ count → All IsUpdate us → All HasShortValue us
         → cursor.old.left ≢ flat_map update_spelled us ++ rest)) }
 {
-    let mut updates = Vec::new(alloc);
+    let mut updates = Vec::with_capacity(alloc, usize::from(count))?;
     for _ in 0..count {
         updates.push(read_update(alloc, cursor)?)?;
     }
@@ -93,7 +93,7 @@ pub(crate) fn read_updates(alloc: Global, cursor: &mut Cursor) -> Result<Updates
     Ok(Updates::from_vec(read_each(alloc, cursor, count)?)?)
 }
 
-fn write_value(out: &mut Appender, oid: ObjId, bytes: &Bytes)
+fn write_value(out: &mut Appender, oid: ObjId, bytes: &SharedBytes)
     requires short { length bytes.now ≤ 4096 }
     requires room { 16 + length bytes.now ≤ out.old.room }
     ensures bytes { out.new.bytes ≡ out.old.bytes ++ value_spelled oid bytes.now }

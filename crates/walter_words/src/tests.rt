@@ -61,7 +61,7 @@ static DRIVEN: [(&str, bool, bool, &str); 8] = [
     ("run", true, false, ""),
     ("run --trace --", true, true, ""),
     ("play --disks here", false, false, "here"),
-    ("play --disks=/tmp/a=b --trace", false, true, "/tmp/a=b"),
+    ("play --disks=there/a=b --trace", false, true, "there/a=b"),
     ("run --trace --disks - --", true, true, "-"),
     ("run --disks=--trace", true, false, "--trace"),
 ];

@@ -28,6 +28,10 @@ use walter_stream::{Sink, Source};
 // As many as there may be client threads and sites.
 const MOST_WORKERS: usize = 40;
 
+// How often a pump worker lets its site do something before it gives the site's lock back: a client waits no longer, and
+// the lock goes from thread to thread so much less.
+const BATCH: u32 = 32;
+
 // How many microseconds a pump worker sleeps that has found nothing to do, unless a client worker ends before.
 const PAUSE: u64 = 100;
 
@@ -219,7 +223,7 @@ fn pump<N: Name, D: Disk + Drop, S: Source + Drop, K: Sink + Drop>(
 {
     for _ in rt.forever() {
         let seen = ended.load(Ordering::SeqCst);
-        if matches!(cluster.pump(rt, alloc, site), Ok(Pumped::Did)) {
+        if matches!(cluster.pump(rt, alloc, site, BATCH), Ok(Pumped::Did)) {
             continue;
         }
         if seen >= u64::from(threads) {

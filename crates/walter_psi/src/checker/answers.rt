@@ -7,10 +7,14 @@ ghost use Rattle.walter_base.specs.Values.{ids_named};
 
 use crate::step::Answer;
 use std::alloc::Global;
-use walter_base::{Bytes, Mem, ObjId, Update};
+use walter_base::{Mem, ObjId, SharedBytes, Update};
 
 // What the object holds after an update, that held this before.
-fn value_behind<'a>(held: Option<&'a Bytes>, update: &'a Update, oid: ObjId) -> Option<&'a Bytes>
+fn value_behind<'a>(
+    held: Option<&'a SharedBytes>,
+    update: &'a Update,
+    oid: ObjId,
+) -> Option<&'a SharedBytes>
     ensures { option_copied result ≡ held_after oid (option_copied held.entry) update.now }
 {
     match update {
@@ -21,7 +25,7 @@ fn value_behind<'a>(held: Option<&'a Bytes>, update: &'a Update, oid: ObjId) -> 
 
 // The last value written to the object.
 #[tactic(auto, using(crate::proofs::CheckerLists::value_more))]
-fn last_value(updates: &[Update], oid: ObjId) -> Option<&Bytes>
+fn last_value(updates: &[Update], oid: ObjId) -> Option<&SharedBytes>
     ensures { option_copied result ≡ value_of oid updates.now }
 {
     let mut held = None;
@@ -31,7 +35,7 @@ fn last_value(updates: &[Update], oid: ObjId) -> Option<&Bytes>
     held
 }
 
-fn is_value(updates: &[Update], oid: ObjId, value: &Option<Bytes>) -> bool
+fn is_value(updates: &[Update], oid: ObjId, value: &Option<SharedBytes>) -> bool
     ensures { IsTrue result ↔ (value.now ≡ value_of oid updates.now) }
 {
     match (value, last_value(updates, oid)) {

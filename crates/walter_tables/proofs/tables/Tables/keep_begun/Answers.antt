@@ -16,4 +16,4 @@ returns-clause-stands c = λ K S f sizes.
     (λ k n. c.lock.ensures.parts k n ∙ ap (λ os. if is_slow old.site c.args.slow k n then Locked c.args.tx.tid os else part_of old.locks k n) made.objects)
     (λ oid. c.lock.ensures.owners oid ∙ ap (λ os. if has_object oid os then Some c.args.tx.tid else owner_of old.locks oid) made.objects)
     c.begin.ensures.last
-    (λ n. c.begin.ensures.commits n ∙ ap (λ ks. if nat_eq c.args.slow n then Some (record { tx = Some c.args.tx; asked = ks; heard = []; no = None }) else commit_of old.slow n) made.sites)
+    (λ n. c.begin.ensures.commits n ∙ ap (λ ks. if nat_eq c.args.slow n then Some (record { tx = Some c.args.tx; asked = ks; heard = []; no = None }) else commit_of old.slow n) made.asked)

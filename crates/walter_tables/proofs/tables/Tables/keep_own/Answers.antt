@@ -66,5 +66,5 @@ returns-clause-stands c = λ K S f sizes.
     (c.append_all.ensures.held old.catalog K.log h c.requires.made.rows f.declared S.rows)
     (subst (λ updates. CountsOwn updates old.totals c.count_commit.new.totals) c.as_slice.ensures c.count_commit.ensures.own)
     c.commit_own.ensures
-    (c.commit_own-2.ensures.holdings ∙ ap (λ ks. with_own ks old.durable.holdings) c.requires.made.sites)
+    (c.commit_own-2.ensures.holdings ∙ ap (λ ks. with_own ks old.durable.holdings) c.requires.made.preferred)
     c.unlock.ensures.parts c.unlock.ensures.owners c.commit_decided.ensures.last c.commit_decided.ensures.commits
