@@ -20,6 +20,7 @@ use crate::answers::{Acted, Moved, Serve};
 use crate::line::Line;
 use crate::node::Node;
 use crate::polling::poll_all;
+use crate::remains::Remains;
 use std::alloc::Global;
 use std::marker::Model;
 use walter_base::{Catalog, Mem, SiteId};
@@ -96,17 +97,22 @@ impl<D: Disk + Drop, S: Source + Drop, K: Sink + Drop> Cell<D, S, K> {
         Ok(Cell { node, ins, lines })
     }
 
-    /// The disk, the trail so far, and the connections.
-    pub fn into_parts(self) -> (D, Trail, Vec<Option<Line<S, K>>>)
+    /// The disk, the trail so far, and the rest, with the connections.
+    pub fn into_parts(self) -> (D, Trail, Remains<S, K>)
         ensures disk { Some result.0 ≡ self.node.disk }
         ensures trail { result.1 ≡ self.node.trail }
-        ensures lines { result.2.items ≡ self.lines }
+        ensures lines { result.2.lines.items ≡ self.lines }
         ensures sound { IsSound D.Disk self.node }
         ensures cell { IsCell self }
     {
-        let Cell { node, lines, .. } = self;
-        let (disk, trail) = node.into_parts();
-        (disk, trail, lines)
+        let Cell { node, ins, lines } = self;
+        let (disk, trail, machine) = node.into_parts();
+        let remains = Remains {
+            lines,
+            machine,
+            ins,
+        };
+        (disk, trail, remains)
     }
 
     /// Does to the disk what `Disk::arm` does.

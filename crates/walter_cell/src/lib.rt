@@ -8,8 +8,10 @@ mod line;
 mod node;
 mod polling;
 mod pumping;
+mod remains;
 
 pub use answers::{Acted, Moved, Pumped, Serve};
 pub use cell::Cell;
 pub use line::Line;
 pub use pumping::pumped;
+pub use remains::Remains;

@@ -17,6 +17,7 @@ use walter_base::{Catalog, Mem, Record, RecordPlace, SiteId};
 use walter_disk::Disk;
 use walter_engine::{BeginFault, Effect, Engine};
 use walter_lane::{Inbound, Outbound, compare, meet};
+use walter_machine::Machine;
 use walter_outbox::put_out;
 use walter_rules::{Came, Entry, Event, Outcome};
 use walter_trail::Trail;
@@ -112,8 +113,8 @@ impl<D: Disk + Drop> Node<D> {
         })
     }
 
-    /// The disk, and the trail so far.
-    pub fn into_parts(self) -> (D, Trail)
+    /// The disk, the trail so far, and what the site knew.
+    pub fn into_parts(self) -> (D, Trail, Machine)
         ensures disk { Some result.0 ≡ self.disk }
         ensures trail { result.1 ≡ self.trail }
         ensures sound { IsSound D.Disk self }
@@ -123,7 +124,8 @@ impl<D: Disk + Drop> Node<D> {
             entries,
             ..
         } = self;
-        (Box::into_inner(engine).into_disk(), Trail::from(entries))
+        let (disk, machine) = Box::into_inner(engine).into_parts();
+        (disk, Trail::from(entries), machine)
     }
 
     /// The last entry of the trail.

@@ -16,6 +16,7 @@ ghost use Rattle.walter_words.specs.Words.{IsText};
 use crate::disks::{give_all, take_all};
 use crate::ended::{Ended, Fault, JournalCause};
 use std::alloc::Global;
+use std::mem;
 use std::sync::Wait;
 use std::thread::Threads;
 use walter_base::Mem;
@@ -54,7 +55,13 @@ pub fn run<X: Threads + Wait + Sync, K: Sink, R: Rack>(
         Err(fault) => return Ended::early(alloc, fault),
     };
     let (bench, driven) = drive(rt, alloc, command, bench, scenario);
-    let Closed { trails, disks, .. } = bench.close();
+    let Closed {
+        trails,
+        disks,
+        remains,
+    } = bench.close();
+    // The process is about to end: what the sites knew isn't freed piece by piece.
+    mem::forget(remains);
     let given = give_all(rack, disks);
     if driven.is_err() {
         return Ended::late(trails, Some(Fault::Memory));

@@ -23,11 +23,11 @@ module _ {D S K : Type 0} where
     pub no_cells : room.cells.items ≡ []
     pub no_trails : room.trails.items ≡ []
     pub no_disks : room.disks.items ≡ []
-    pub no_conns : room.conns.items ≡ []
+    pub no_remains : room.remains.items ≡ []
     pub for_cells : sites ≤ vec_capacity room.cells
     pub for_trails : sites ≤ vec_capacity room.trails
     pub for_disks : sites ≤ vec_capacity room.disks
-    pub for_conns : sites ≤ vec_capacity room.conns
+    pub for_remains : sites ≤ vec_capacity room.remains
 
   -- the ends of all lanes, lists with the connections of the clients of each site, the homes of these, and room for what the
   -- bench has

@@ -16,7 +16,7 @@ use crate::meeting::meet_all;
 use std::alloc::Global;
 use std::marker::Model;
 use walter_base::{Mem, SiteId};
-use walter_cell::{Acted, Cell, Line, Moved, Pumped, Serve, pumped};
+use walter_cell::{Acted, Cell, Moved, Pumped, Remains, Serve, pumped};
 use walter_disk::Disk;
 use walter_link::Pump;
 use walter_rules::{Event, Input};
@@ -33,7 +33,7 @@ pub struct Bench<D: Disk, S: Source + Drop, K: Sink + Drop> {
     // What closing the bench fills.
     pub(crate) trails: Vec<Trail>,
     pub(crate) disks: Vec<D>,
-    pub(crate) conns: Vec<Vec<Option<Line<S, K>>>>,
+    pub(crate) remains: Vec<Remains<S, K>>,
 }
 
 impl<D: Disk, S: Source + Drop, K: Sink + Drop> Model for Bench<D, S, K> {
@@ -54,7 +54,7 @@ impl<D: Disk, S: Source + Drop, K: Sink + Drop> Model for Bench<D, S, K> {
     // There is room for what closing takes.
     ghost invariant = { λ b. IsBench (record { cells = b.cells.items; homes = b.homes.items })
         × HasRoom (length b.cells.items) b.trails × HasRoom (length b.cells.items) b.disks
-        × HasRoom (length b.cells.items) b.conns };
+        × HasRoom (length b.cells.items) b.remains };
 }
 
 impl<D: Disk + Drop, S: Source + Drop, K: Sink + Drop> Bench<D, S, K> {

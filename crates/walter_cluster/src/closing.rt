@@ -10,18 +10,18 @@ ghost use Rattle.walter_cluster.specs.Meetings.{HaveLanes, Begins};
 use crate::bench::Bench;
 use crate::lending::lend_two;
 use walter_base::SiteId;
-use walter_cell::{Cell, Line};
+use walter_cell::{Cell, Remains};
 use walter_disk::Disk;
 use walter_stream::{Sink, Source};
 use walter_trail::Trail;
 
-/// What is left of a bench: the trails, the disks, and the connections of the clients, each by the numbers of the
-/// sites; the connections of a site by the clients' numbers.
+/// What is left of a bench: the trails, the disks, and what remains of the cells, with the connections of the clients,
+/// each by the numbers of the sites.
 #[derive(Drop)]
 pub struct Closed<D: Disk, S: Source + Drop, K: Sink + Drop> {
     pub trails: Vec<Trail>,
     pub disks: Vec<D>,
-    pub conns: Vec<Vec<Option<Line<S, K>>>>,
+    pub remains: Vec<Remains<S, K>>,
 }
 
 impl<D: Disk + Drop, S: Source + Drop, K: Sink + Drop> Bench<D, S, K> {
@@ -36,20 +36,20 @@ impl<D: Disk + Drop, S: Source + Drop, K: Sink + Drop> Bench<D, S, K> {
             mut cells,
             trails,
             disks,
-            conns,
+            remains,
             ..
         } = self;
         compare_all(&mut cells);
         let mut closed = Closed {
             trails,
             disks,
-            conns,
+            remains,
         };
         for cell in cells {
-            let (disk, trail, lines) = cell.into_parts();
+            let (disk, trail, remains) = cell.into_parts();
             closed.trails.push_reserved(trail);
             closed.disks.push_reserved(disk);
-            closed.conns.push_reserved(lines);
+            closed.remains.push_reserved(remains);
         }
         closed
     }

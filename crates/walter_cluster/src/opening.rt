@@ -15,7 +15,7 @@ use crate::connecting::connect;
 use crate::seating::seat_all;
 use std::alloc::Global;
 use walter_base::{Mem, SiteId};
-use walter_cell::{Cell, Line};
+use walter_cell::{Cell, Line, Remains};
 use walter_disk::Disk;
 use walter_engine::BeginFault;
 use walter_lane::{Inbound, Outbound};
@@ -38,7 +38,7 @@ pub(crate) struct Room<D: Disk, S: Source + Drop, K: Sink + Drop> {
     pub(crate) cells: Vec<Cell<D, S, K>>,
     pub(crate) trails: Vec<Trail>,
     pub(crate) disks: Vec<D>,
-    pub(crate) conns: Vec<Vec<Option<Line<S, K>>>>,
+    pub(crate) remains: Vec<Remains<S, K>>,
 }
 
 // What the cells are made of beside their disks, by the sites' numbers, the site of each client, and room.
@@ -126,7 +126,7 @@ fn make_room<D: Disk + Drop, S: Source + Drop, K: Sink + Drop>(
         cells: Vec::with_capacity(alloc, sites)?,
         trails: Vec::with_capacity(alloc, sites)?,
         disks: Vec::with_capacity(alloc, sites)?,
-        conns: Vec::with_capacity(alloc, sites)?,
+        remains: Vec::with_capacity(alloc, sites)?,
     })
 }
 
@@ -171,7 +171,7 @@ fn begin_all<D: Disk + Drop, S: Source + Drop, K: Sink + Drop>(
         mut cells,
         trails,
         disks: back,
-        conns,
+        remains,
     } = room;
     for number in 0..scenario.catalog.sites {
         let disk = disks.remove(0);
@@ -206,7 +206,7 @@ fn begin_all<D: Disk + Drop, S: Source + Drop, K: Sink + Drop>(
         homes,
         trails,
         disks: back,
-        conns,
+        remains,
     })
 }
 

@@ -13,7 +13,7 @@ use std::alloc::Global;
 use std::marker::{Model, PhantomData};
 use std::sync::{Mutex, Wait};
 use walter_base::{Mem, SiteId};
-use walter_cell::{Cell, Line, Pumped, Serve};
+use walter_cell::{Cell, Pumped, Remains, Serve};
 use walter_disk::Disk;
 use walter_link::Pump;
 use walter_stream::{Sink, Source};
@@ -67,7 +67,7 @@ struct Room<N: Name, D: Disk, S: Source + Drop, K: Sink + Drop> {
     pumps: Vec<Pump>,
     trails: Vec<Trail>,
     disks: Vec<D>,
-    conns: Vec<Vec<Option<Line<S, K>>>>,
+    remains: Vec<Remains<S, K>>,
     of: PhantomData<N>,
 }
 
@@ -81,7 +81,7 @@ impl<N: Name, D: Disk, S: Source + Drop, K: Sink + Drop> Model for Room<N, D, S,
 
     ghost invariant = { λ r. HasRoom (length N.origins) r.cells × HasRoom (length N.origins) r.pumps
         × HasRoom (length N.origins) r.trails × HasRoom (length N.origins) r.disks
-        × HasRoom (length N.origins) r.conns };
+        × HasRoom (length N.origins) r.remains };
 }
 
 impl<N: Name, D: Disk + Drop, S: Source + Drop, K: Sink + Drop> Room<N, D, S, K> {
@@ -90,20 +90,20 @@ impl<N: Name, D: Disk + Drop, S: Source + Drop, K: Sink + Drop> Room<N, D, S, K>
         pumps: Vec<Pump>,
         trails: Vec<Trail>,
         disks: Vec<D>,
-        conns: Vec<Vec<Option<Line<S, K>>>>,
+        remains: Vec<Remains<S, K>>,
     ) -> Room<N, D, S, K>
         requires cells { HasRoom (length N.origins) cells }
         requires pumps { HasRoom (length N.origins) pumps }
         requires trails { HasRoom (length N.origins) trails }
         requires disks { HasRoom (length N.origins) disks }
-        requires conns { HasRoom (length N.origins) conns }
+        requires remains { HasRoom (length N.origins) remains }
     {
         Room {
             cells,
             pumps,
             trails,
             disks,
-            conns,
+            remains,
             of: PhantomData,
         }
     }
@@ -116,23 +116,23 @@ impl<N: Name, D: Disk + Drop, S: Source + Drop, K: Sink + Drop> Room<N, D, S, K>
         Vec<Pump>,
         Vec<Trail>,
         Vec<D>,
-        Vec<Vec<Option<Line<S, K>>>>,
+        Vec<Remains<S, K>>,
     )
         ensures cells { HasRoom (length N.origins) result.0 }
         ensures pumps { HasRoom (length N.origins) result.1 }
         ensures trails { HasRoom (length N.origins) result.2 }
         ensures disks { HasRoom (length N.origins) result.3 }
-        ensures conns { HasRoom (length N.origins) result.4 }
+        ensures remains { HasRoom (length N.origins) result.4 }
     {
         let Room {
             cells,
             pumps,
             trails,
             disks,
-            conns,
+            remains,
             ..
         } = self;
-        (cells, pumps, trails, disks, conns)
+        (cells, pumps, trails, disks, remains)
     }
 }
 
@@ -195,7 +195,7 @@ impl<N: Name, D: Disk + Drop, S: Source + Drop, K: Sink + Drop> Cluster<N, D, S,
             homes,
             trails,
             disks,
-            conns,
+            remains,
         } = bench;
         let mut pumps = pumps;
         let site_7 = lock_last::<N, D, S, K, 7>(&mut cells, &mut pumps);
@@ -216,7 +216,7 @@ impl<N: Name, D: Disk + Drop, S: Source + Drop, K: Sink + Drop> Cluster<N, D, S,
             site_5,
             site_6,
             site_7,
-            room: Mutex::new(Room::new(cells, pumps, trails, disks, conns)),
+            room: Mutex::new(Room::new(cells, pumps, trails, disks, remains)),
         }
     }
 
@@ -239,7 +239,7 @@ impl<N: Name, D: Disk + Drop, S: Source + Drop, K: Sink + Drop> Cluster<N, D, S,
             site_7,
             room,
         } = self;
-        let (mut cells, mut pumps, trails, disks, conns) = room.into_inner().into_lists();
+        let (mut cells, mut pumps, trails, disks, remains) = room.into_inner().into_lists();
         unlock_next::<N, D, S, K, 0>(site_0, &mut cells, &mut pumps);
         unlock_next::<N, D, S, K, 1>(site_1, &mut cells, &mut pumps);
         unlock_next::<N, D, S, K, 2>(site_2, &mut cells, &mut pumps);
@@ -253,7 +253,7 @@ impl<N: Name, D: Disk + Drop, S: Source + Drop, K: Sink + Drop> Cluster<N, D, S,
             homes,
             trails,
             disks,
-            conns,
+            remains,
         };
         (bench, pumps)
     }

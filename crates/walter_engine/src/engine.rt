@@ -116,15 +116,23 @@ impl<D: Disk + Drop> Engine<D> {
         self.machine.least_enabled()
     }
 
+    /// The disk, as it is, and the machine, which has all that the site knew.
+    pub fn into_parts(self) -> (D, Machine)
+        ensures { Some result.0 ≡ disk_in self }
+    {
+        let Engine { store, machine, .. } = self;
+        match store {
+            Some(store) => (into_disk(store), machine),
+            None => unreachable!(),
+        }
+    }
+
     /// The disk, as it is.
     pub fn into_disk(self) -> D
         ensures { Some result ≡ disk_in self }
     {
-        let Engine { store, .. } = self;
-        match store {
-            Some(store) => into_disk(store),
-            None => unreachable!(),
-        }
+        let (disk, _) = self.into_parts();
+        disk
     }
 
     /// Does to the disk what `Disk::arm` does.

@@ -123,9 +123,13 @@ pub(crate) fn answers_and_held(alloc: Global, failing: Vec<u64>, text: &str) -> 
     let second = line(alloc, second.bytes.as_slice(), Vec::new(alloc), ROOMS[1])?;
     let mut bench = bench_of(alloc, &scenario, first, second)?;
     let mut said = turn_all(alloc, &mut bench, clients, &TURNS)?;
-    let Closed { trails, conns, .. } = bench.close();
-    for lines in conns {
-        push_held(alloc, &mut said, lines)?;
+    let Closed {
+        trails,
+        remains,
+        ..
+    } = bench.close();
+    for remains in remains {
+        push_held(alloc, &mut said, remains.lines)?;
     }
     push_outcomes(alloc, &mut said, &trails)?;
     Ok(said)

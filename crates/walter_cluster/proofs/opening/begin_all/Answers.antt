@@ -141,5 +141,5 @@ invariant_of-result g c =
           c.requires.few c.requires.within,
       room_built g.D.Disk t disks rows columns lists cells begun c.requires.disks parts.room.trails room.no_trails room.for_trails,
       room_built g.D.Disk t disks rows columns lists cells begun c.requires.disks parts.room.disks room.no_disks room.for_disks,
-      room_built g.D.Disk t disks rows columns lists cells begun c.requires.disks parts.room.conns room.no_conns room.for_conns,
+      room_built g.D.Disk t disks rows columns lists cells begun c.requires.disks parts.room.remains room.no_remains room.for_remains,
     )

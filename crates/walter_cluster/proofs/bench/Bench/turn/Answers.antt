@@ -58,7 +58,7 @@ invariant_of-self g c =
     let x = c.serve.new.self in
     let new : List (CellValue g.row.D.Denot) = set old.cells c.from.result x in
     let one : ChangesOne old.cells new h.0 a x = one_at old.cells c.from.result h.0 a x c.from.ensures there c.index_mut.ensures.value in
-    whole_kept g.D.Disk old.cells new old.homes c.self.inside.trails c.self.inside.disks c.self.inside.conns
+    whole_kept g.D.Disk old.cells new old.homes c.self.inside.trails c.self.inside.disks c.self.inside.remains
     (each_one g.D.Disk old.cells new h.0 a x one c.serve.ensures.proceeds.keeps) c.self.invariant
 
 pub returns-clause-keeps : goal.returns-clause-keeps

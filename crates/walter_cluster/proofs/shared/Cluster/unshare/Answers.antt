@@ -20,5 +20,5 @@ invariant_of-bench g c =
       bench_again g.D.Disk origins c.self.inside.homes.items cells pumps was long as_long last.ensures.held,
       subst (λ (n : ℕ). HasRoom n lists.result.2) (sym long) lists.ensures.trails,
       subst (λ (n : ℕ). HasRoom n lists.result.3) (sym long) lists.ensures.disks,
-      subst (λ (n : ℕ). HasRoom n lists.result.4) (sym long) lists.ensures.conns,
+      subst (λ (n : ℕ). HasRoom n lists.result.4) (sym long) lists.ensures.remains,
     )
