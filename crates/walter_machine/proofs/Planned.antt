@@ -81,14 +81,6 @@ takes_here : (rec : Option Record) (P : Type 0) → (is_some rec ≡ true → P)
 takes_here None P so = tt
 takes_here (Some rec) P so = so refl
 
--- what goes with a record is made where there is one
-pub kept_both : (t : Tables) (rec : Option Record) (made : Option Made) → CanKeepAny t rec made
-    → is_some made ≡ is_some rec
-kept_both t None None keeps = refl
-kept_both t (Some rec) (Some made) keeps = refl
-kept_both t None (Some made) keeps = absurd keeps
-kept_both t (Some rec) None keeps = absurd keeps
-
 -- a plan
 pub plan_ready : (catalog : Catalog) (i : SiteId) (S : Standing) (old new : Tables) (input : Input) (owing : Option Tid)
     (plan : Plan) → site_of old ≡ i → catalog_of old ≡ catalog → site_of new ≡ site_of old → catalog_of new ≡ catalog_of old

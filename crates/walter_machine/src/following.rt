@@ -12,14 +12,13 @@ ghost use Rattle.walter_rules.specs.Standing.{Standing, up_after};
 ghost use Rattle.walter_site.specs.Members.{Knows, IsStanding};
 ghost use Rattle.walter_tables.specs.Sites.{site_of, catalog_of};
 
-use crate::packed::PackedPlan;
 use crate::ready::Step;
 use std::alloc::Global;
 use std::mem;
 use walter_base::{MaybeRecord, Record, Sends};
 use walter_rules::{Event, Outcome};
 use walter_session::Sessions;
-use walter_site::Site;
+use walter_site::{Plan, Site};
 use walter_tables::Tables;
 
 /// Does to a site what the step does to it, and tells what that comes to.
@@ -76,7 +75,7 @@ fn rise(site: &mut Option<Site>, tables: Box<Tables>)
 }
 
 // The plan of an input is applied.
-fn apply(site: &mut Option<Site>, event: &Event, plan: PackedPlan) -> (Outcome, Sends)
+fn apply(site: &mut Option<Site>, event: &Event, plan: Plan) -> (Outcome, Sends)
     requires { (S : Standing) × IsPlan site.old S event.now plan }
     ensures outcome { result.0 ≡ plan.planned.outcome }
     ensures sends { result.1 ≡ plan.planned.sends }
@@ -90,7 +89,7 @@ fn apply(site: &mut Option<Site>, event: &Event, plan: PackedPlan) -> (Outcome, 
     let Event::Given(input) = event else {
         unreachable!()
     };
-    site.apply(input, plan.into_plan())
+    site.apply(input, plan)
 }
 
 /// The record of a step that has one.
@@ -99,7 +98,10 @@ pub fn rec_of(step: Step) -> Record
     ensures { record_of step ≡ Some result }
 {
     match step {
-        Step::Apply(plan) => plan.into_record(),
+        Step::Apply(plan) => match plan.planned.rec.into_option() {
+            Some(rec) => rec,
+            None => unreachable!(),
+        },
         Step::Rise(_, epoch) => Record::Boot(epoch),
         Step::Answer(_) | Step::Fall => unreachable!(),
     }

@@ -7,7 +7,6 @@ mod following;
 mod losing;
 mod machine;
 mod outcomes;
-mod packed;
 mod places;
 mod preparing;
 mod ready;

@@ -16,7 +16,6 @@ ghost use Rattle.walter_tables.specs.Folding.{IsTidy};
 ghost use Rattle.walter_tables.specs.Sites.{site_of, catalog_of};
 
 use crate::outcomes::gone_first;
-use crate::packed::PackedPlan;
 use crate::ready::{Ready, Step};
 use std::alloc::Global;
 use walter_base::{MaybeRecord, Mem, NoMemory, Refusal, Reply, Sends, Tid};
@@ -106,7 +105,7 @@ fn plan(alloc: Global, site: &mut Site, sites: u8, records: u64, input: &Input) 
     let frames = frame_all(alloc, &plan.planned.sends, sites)?;
     let rec = copy_any(alloc, &plan.planned.rec, records)?;
     Ok(Ready {
-        step: Step::Apply(PackedPlan::new(alloc, plan)?),
+        step: Step::Apply(plan),
         rec,
         frames,
     })

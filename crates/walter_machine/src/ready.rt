@@ -5,11 +5,11 @@ ghost use Rattle.walter_rules.specs.Standing.{Standing};
 ghost use Rattle.walter_rules.specs.declared.event.Event.TheVariants as event;
 ghost use Rattle.walter_tables.specs.Sites.{values_of, site_of, catalog_of, Stands};
 
-use crate::packed::PackedPlan;
 use std::alloc::Global;
 use walter_base::{MaybeRecord, Record, RecordPlace};
 use walter_packet::Framed;
 use walter_rules::Outcome;
+use walter_site::Plan;
 use walter_tables::Tables;
 
 /// What is to come of an event, with all that it takes. Contracts say by `IsReadyFor` of which event, and read it by
@@ -30,7 +30,7 @@ pub(crate) enum Step {
     /// It is answered, and what the site knows stays.
     Answer(Outcome),
     /// The plan of an input is applied.
-    Apply(PackedPlan),
+    Apply(Plan),
     /// The site goes down.
     Fall,
     /// The site comes up in this epoch, with these tables behind its Boot. They are large beside what other steps have,

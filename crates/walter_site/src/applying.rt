@@ -11,9 +11,10 @@ ghost use Rattle.walter_rules.specs.Records.{CanFollow, IsRecordAmong};
 ghost use Rattle.walter_tables.specs.Answering.{begun_in};
 ghost use Rattle.walter_tables.specs.Sites.{site_of, catalog_of, Stands};
 
+use crate::maybe_made::MaybeMade;
 use walter_base::{Call, MaybeRecord, Packet, Record, SiteId, Update};
 use walter_rules::{Input, Outcome};
-use walter_tables::{Made, Tables};
+use walter_tables::Tables;
 
 /// The number of the slow commit that the record begins, if it begins one.
 pub fn number_begun(rec: &MaybeRecord) -> Option<u64>
@@ -26,7 +27,7 @@ pub fn number_begun(rec: &MaybeRecord) -> Option<u64>
 }
 
 /// Keeps what the record tells, if there is one.
-pub fn keep_any(tables: &mut Tables, rec: MaybeRecord, made: Option<Made>)
+pub fn keep_any(tables: &mut Tables, rec: MaybeRecord, made: MaybeMade)
     requires keeps { CanKeepAny tables.old rec made }
     ensures stands { (K : Knowledge) → Stands tables.old K
         → IfSome rec (CanFollow (catalog_of tables.old) (site_of tables.old) K)
@@ -40,7 +41,7 @@ pub fn keep_any(tables: &mut Tables, rec: MaybeRecord, made: Option<Made>)
     let Some(rec) = rec.into_option() else {
         return;
     };
-    let Some(made) = made else {
+    let Some(made) = made.into_option() else {
         return;
     };
     tables.keep(rec, made);

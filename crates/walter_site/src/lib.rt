@@ -2,10 +2,12 @@
 #![tactic(auto)]
 
 mod applying;
+mod maybe_made;
 mod plan;
 mod planning;
 mod readying;
 mod site;
 
+pub use maybe_made::MaybeMade;
 pub use plan::Plan;
 pub use site::Site;

@@ -9,12 +9,13 @@ ghost use Rattle.walter_tables.specs.Answering.{IsAskedBy, TakesRoom};
 ghost use Rattle.walter_tables.specs.Keeping.{GoesOn};
 ghost use Rattle.walter_tables.specs.Sites.{site_of, catalog_of, Stands};
 
+use crate::maybe_made::MaybeMade;
 use walter_base::{Call, MaybeRecord, Mem, Reply, Update};
 use walter_rules::{Input, Outcome};
-use walter_tables::{Made, Tables, update_of};
+use walter_tables::{Tables, update_of};
 
 /// What goes with the record, if there is one, and room for what it brings.
-pub fn make_ready(tables: &mut Tables, rec: &MaybeRecord) -> Mem<Option<Made>>
+pub fn make_ready(tables: &mut Tables, rec: &MaybeRecord) -> Mem<MaybeMade>
     requires on { IfSome rec.now (GoesOn tables.old) }
     ensures keeps { IfOk result (CanKeepAny tables.new rec.now) }
     ensures free { OnErr result (IsSome rec.now) }
@@ -28,9 +29,9 @@ pub fn make_ready(tables: &mut Tables, rec: &MaybeRecord) -> Mem<Option<Made>>
         Some(rec) => {
             let made = tables.make(rec)?;
             tables.reserve(rec, &made)?;
-            Ok(Some(made))
+            MaybeMade::some(made)
         }
-        None => Ok(None),
+        None => Ok(MaybeMade::none()),
     }
 }
 

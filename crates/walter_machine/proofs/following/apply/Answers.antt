@@ -13,10 +13,7 @@ pub returns-clause-knows : goal.returns-clause-knows
 returns-clause-knows c = λ S is.
     let site = c.args.site.now in
     let event = c.args.event.now in
-    subst (λ (p : Plan). IfSome site (λ t.
-    IsKnownBy (Some c.apply.new.self) (after (catalog_of t) (site_of t) S.knows event p.planned.outcome p.planned.rec))) c.into_plan.ensures
-    (applied_knows site event S c.into_plan.result c.in-Some.site _ c.in-Given.input c.in-Some.is c.in-Given.is c.apply.ensures.knows
-    (subst (λ (p : Plan). IsPlan site S event p) (sym c.into_plan.ensures) is))
+    applied_knows site event S c.args.plan c.in-Some.site _ c.in-Given.input c.in-Some.is c.in-Given.is c.apply.ensures.knows is
 
 pub returns-clause-of : goal.returns-clause-of
 returns-clause-of c = λ catalog i of.

@@ -6,9 +6,7 @@ use Rattle.walter_rules.specs.Sending.{Send}
 use Rattle.walter_tables.specs.Planning.{expected_of}
 use Rattle.walter_tables.specs.Sites.{site_of, catalog_of}
 use Rattle.walter_machine.proofs.Calls.{record_takes, sends_take, on_err}
-use Rattle.walter_site.specs.declared.plan.Plan.{Plan}
-use Rattle.walter_machine.specs.declared.ready.Step.TheVariants.{Apply}
-use Rattle.walter_machine.proofs.Planned.{kept_both, plan_ready}
+use Rattle.walter_machine.proofs.Planned.{plan_ready}
 use Rattle.walter_machine.proofs.preparing.plan.Goals as goal
 
 pub returns-in_err-frames-clause-free : goal.returns-in_err-frames-clause-free
@@ -23,22 +21,11 @@ returns-in_err-rec-clause-free c =
     on_err _ _ (record_takes (catalog_of c.args.site.now) (site_of c.args.site.now) e.standing.0 c.args.input.now (expected_of c.in_ok-plan.plan.planned)
     (e.rule e.standing.0 e.standing.1) c.in_err-rec.ensures.free)
 
-pub new-requires : goal.new-requires
-new-requires c =
-    let e = c.in_ok-plan.ensures in
-    record { together = kept_both c.plan.new.self c.in_ok-plan.plan.planned.rec c.in_ok-plan.plan.made e.ready.keeps }
-
-pub returns-in_err-new-clause-free : goal.returns-in_err-new-clause-free
-returns-in_err-new-clause-free c =
-    let e = c.in_ok-plan.ensures in
-    on_err _ _ (record_takes (catalog_of c.args.site.now) (site_of c.args.site.now) e.standing.0 c.args.input.now (expected_of c.in_ok-plan.plan.planned)
-    (e.rule e.standing.0 e.standing.1) c.in_err-new.ensures.free)
-
 pub returns-clause-ready : goal.returns-clause-ready
 returns-clause-ready c = λ S owed up owes first.
     let e = c.in_ok-plan.ensures in
     let plan = c.in_ok-plan.plan in
     plan_ready (catalog_of c.args.site.now) (site_of c.args.site.now) S c.args.site.now _ c.args.input.now owed plan refl refl e.site e.catalog
     up owes first (e.knows S.knows up.knows) (e.rule S.knows up.knows) e.ready (e.follows S.knows up.knows) e.sizes e.short
-    (subst (λ (n : ℕ). All (λ s. HasPacketSpelling n s.1) plan.planned.sends) (sym c.requires.among) c.in_ok-frames.ensures.spelled) _ (ap (λ (p : Plan). Apply p) c.in_ok-new.ensures.plan)
+    (subst (λ (n : ℕ). All (λ s. HasPacketSpelling n s.1) plan.planned.sends) (sym c.requires.among) c.in_ok-frames.ensures.spelled) _ refl
     (c.in_ok-frames.ensures.frames ∙ ap (λ (n : ℕ). map (λ (s : Send). frame_of n s.1) plan.planned.sends) (sym c.requires.among))
