@@ -8,8 +8,9 @@ but one for each site, by which it says again what a full lane has dropped.
 What is measured is the time that passes while the whole program runs, less the least of a run that only reads the same scenario
 and refuses its last step; of several runs the one with the most events a second counts. How many events there are depends on how
 the threads go, but not what an event takes, so runs are compared by events a second. The trails and the report are made in
-this time too, by one thread; the column `together` tells how long there was more than one. `play` plays the same calls by
-steps: a turn of each client, and then so many pumps of each site that nothing is left in the end.
+this time too, by one thread; the column `together` tells how long there was more than one, and the last line compares the
+events a second in that time too. `play` plays the same calls by steps: a turn of each client, and then so many pumps of each
+site that nothing is left in the end.
 
     python3 bench/threads.py
     python3 bench/threads.py --program PATH --transactions 2000 --runs 3
@@ -93,6 +94,11 @@ def rate(run):
     return run.events / run.seconds
 
 
+def driven(run):
+    """The events a second of the time in which threads drove."""
+    return run.events / max(run.together, LEAST)
+
+
 def best(words, made, runs):
     """The best of so many runs of a command on a scenario, without the least time in which it reads."""
     refused = {**made, "steps": [*made["steps"], "none"]}
@@ -108,17 +114,18 @@ def line(word, sites, transactions, run):
 
 def lines(program, transactions, runs):
     """A line for each measure, and the ratios."""
-    rates = {}
+    rates, driving = {}, {}
     for sites in SITES:
         # As many calls in all, so that the runs are about as long.
         each = transactions // sites
         for word, steps in ("run", ()), ("play", steps_of(sites, each)):
             run = best([program, word], scenario(sites, each, steps), runs)
-            rates[word, sites] = rate(run)
+            rates[word, sites], driving[word, sites] = rate(run), driven(run)
             yield line(word, sites, each, run)
     least, most = SITES[0], SITES[-1]
-    yield (f"{most} threads to {least}: {rates['run', most] / rates['run', least]:.2f} times the events a second; to play of "
-           f"the same calls: {rates['run', most] / rates['play', most]:.2f} times")
+    yield (f"{most} threads to {least}: {rates['run', most] / rates['run', least]:.2f} times the events a second, "
+           f"{driving['run', most] / driving['run', least]:.2f} times while threads drive; to play of the same calls: "
+           f"{rates['run', most] / rates['play', most]:.2f} times")
 
 
 def main():

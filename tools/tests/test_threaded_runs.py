@@ -115,7 +115,8 @@ class Speed(InFolder):
         for line, (word, sites) in zip(lines, [(word, sites) for sites in (1, 2, 4) for word in ("run", "play")]):
             self.assertRegex(line, rf"^{word} +{sites} sites: +24 calls +[\d,]+ events +0\.\d{{3}} s +0\.\d{{3}} s together +[\d,]+ "
                              "events a second$")
-        self.assertRegex(last, r"^4 threads to 1: \d+\.\d\d times the events a second; to play of the same calls: \d+\.\d\d times$")
+        self.assertRegex(last, r"^4 threads to 1: \d+\.\d\d times the events a second, \d+\.\d\d times while threads drive; "
+                         r"to play of the same calls: \d+\.\d\d times$")
 
     def test_a_program_that_fails_is_told(self):
         program = self.write("program", "#!/bin/sh\nexit 5\n", is_program=True)
