@@ -19,7 +19,7 @@ use walter_base::{MaybeRecord, Record, Sends};
 use walter_rules::{Event, Outcome};
 use walter_session::Sessions;
 use walter_site::{Plan, Site};
-use walter_tables::Tables;
+use walter_tables::{Planned, Tables};
 
 /// Does to a site what the step does to it, and tells what that comes to.
 pub fn follow(
@@ -92,16 +92,26 @@ fn apply(site: &mut Option<Site>, event: &Event, plan: Plan) -> (Outcome, Sends)
     site.apply(input, plan)
 }
 
+// The record of a plan that has one.
+fn planned_record(plan: Plan) -> Record
+    requires { IsSome plan.planned.rec }
+    ensures { plan.planned.rec ≡ Some result }
+{
+    let Plan { planned, .. } = plan;
+    let Planned { rec, .. } = planned;
+    match rec.into_option() {
+        Some(rec) => rec,
+        None => unreachable!(),
+    }
+}
+
 /// The record of a step that has one.
 pub fn rec_of(step: Step) -> Record
     requires { IsSome (record_of step) }
     ensures { record_of step ≡ Some result }
 {
     match step {
-        Step::Apply(plan) => match plan.planned.rec.into_option() {
-            Some(rec) => rec,
-            None => unreachable!(),
-        },
+        Step::Apply(plan) => planned_record(plan),
         Step::Rise(_, epoch) => Record::Boot(epoch),
         Step::Answer(_) | Step::Fall => unreachable!(),
     }
