@@ -33,12 +33,6 @@ abbrev pub is_open_under : {D : Type 0} {g : Ghosts D} → Option (Store D g) �
 is_open_under None = false
 is_open_under (Some store) = is_open store
 
--- the book of a site that is down is closed, and its disk stays
-abbrev pub closed_where_down : {D : Type 0} {g : Ghosts D} → Bool → Option (Store D g) → Option (Store D g)
-closed_where_down up None = None
-closed_where_down up (Some (Open book)) = Some (if up then Open book else Closed (disk_of book))
-closed_where_down up (Some (Closed disk)) = Some (Closed disk)
-
 -- how a book is laid out
 abbrev pub layout_by : Shape → Live → Layout
 layout_by shape Whole = one_area shape.capacity

@@ -8,7 +8,7 @@ ghost use Rattle.walter_machine.specs.Machines.{is_up as is_up_machine};
 use crate::answers::{BeginFault, Effect, RefusedRestart};
 use crate::beginning::{begin_over, not_loaded};
 use crate::restarting::{raise, unloaded};
-use crate::store::{Store, arm, close_where_down, into_disk, store_of};
+use crate::store::{Store, arm, into_disk, store_of};
 use crate::writing::write;
 use std::alloc::Global;
 use std::mem;
@@ -213,18 +213,19 @@ impl<D: Disk + Drop> Engine<D> {
         ensures stops { event.now ≡ happens.Stop → disk_in self.new ≡ disk_in self.old }
         ensures tidy { event.now ≡ happens.Given inputs.Tick → IfSome (tables_in self.new) IsTidy }
     {
-        let Some(Store::Open(book)) = &mut self.store else {
+        let Some(Store::Open(mut book)) = mem::replace(&mut self.store, None) else {
             unreachable!()
         };
         let Ok(ready) = self.machine.prepare(event) else {
+            self.store = Some(Store::Open(book));
             return Effect {
                 came: self.machine.want(event),
                 frames: Vec::new(self.alloc),
                 refused: None,
             };
         };
-        let (came, frames) = write(self.alloc, &mut self.machine, book, event, ready);
-        close_where_down(self.machine.is_up(), &mut self.store);
+        let (came, frames) = write(self.alloc, &mut self.machine, &mut book, event, ready);
+        self.store = Some(store_of(self.machine.is_up(), book));
         Effect {
             came,
             frames,

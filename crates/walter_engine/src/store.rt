@@ -1,10 +1,9 @@
-ghost use Rattle.std.specs.Prelude.{◌≡◌, true, ◌<◌, ◌++◌, ◌∷◌, [], Some, option_map, OnOk, OnErr, if◌then◌else◌};
+ghost use Rattle.std.specs.Prelude.{◌≡◌, ◌<◌, ◌++◌, ◌∷◌, [], Some, option_map, OnOk, OnErr, if◌then◌else◌};
 ghost use Rattle.walter_checkpoint.specs.Books.{disk_of};
-ghost use Rattle.walter_engine.specs.Stores.{closed_where_down, disk_of_store, is_open, is_open_under, IsStored};
+ghost use Rattle.walter_engine.specs.Stores.{disk_of_store, is_open, IsStored};
 ghost use Rattle.walter_rules.specs.Layouts.{Layout};
 ghost use Rattle.walter_rules.specs.Standing.{Standing};
 
-use std::mem;
 use walter_base::{Mem, NoMemory};
 use walter_checkpoint::Book;
 use walter_disk::Disk;
@@ -39,20 +38,6 @@ pub(crate) fn store_of<D: Disk>(is_up: bool, book: Book<D>) -> Store<D>
     } else {
         Store::Closed(book.into_disk())
     }
-}
-
-/// Closes the book of a site that is down: its disk stays. That of one that is up stays where it is.
-pub(crate) fn close_where_down<D: Disk>(is_up: bool, store: &mut Option<Store<D>>)
-    requires { is_open_under store.old ≡ true }
-    ensures { store.new ≡ closed_where_down is_up store.old }
-{
-    if is_up {
-        return;
-    }
-    let Some(Store::Open(book)) = mem::replace(store, None) else {
-        unreachable!()
-    };
-    *store = Some(Store::Closed(book.into_disk()));
 }
 
 /// Arms the disk, bare or under a book.
