@@ -35,6 +35,10 @@ const BATCH: u32 = 32;
 // How many microseconds a pump worker sleeps that has found nothing to do, unless a client worker ends before.
 const PAUSE: u64 = 100;
 
+// How often in a row a pump worker finds nothing to do, once all client workers have ended, before it ends: other sites may
+// still be at work for its own, and what threads leave is done by one alone.
+const PATIENCE: u32 = 10;
+
 /// Arms the disks as the scenario says, and lets worker threads serve its clients and pump its sites, to the end; its
 /// steps are not taken. Where memory runs out, what was done so far stands. The bench comes back in any case.
 pub fn run<
@@ -210,7 +214,7 @@ fn serve_client<N: Name, D: Disk + Drop, S: Source + Drop, K: Sink + Drop, G: Ga
     }
 }
 
-// Pumps a site, until a pump that began behind the end of all client workers finds nothing to do.
+// Pumps a site, until pumps that began behind the end of all client workers find nothing to do again and again.
 fn pump<N: Name, D: Disk + Drop, S: Source + Drop, K: Sink + Drop>(
     rt: &impl Wait,
     alloc: Global,
@@ -227,8 +231,31 @@ fn pump<N: Name, D: Disk + Drop, S: Source + Drop, K: Sink + Drop>(
             continue;
         }
         if seen >= u64::from(threads) {
-            return;
+            if rests(rt, alloc, cluster, ended, threads, site) {
+                return;
+            }
+            continue;
         }
         ended.park_timeout(rt, seen as u32, Duration::from_micros(PAUSE));
     }
+}
+
+// Whether a site finds nothing to do, again and again, once all client workers have ended.
+fn rests<N: Name, D: Disk + Drop, S: Source + Drop, K: Sink + Drop>(
+    rt: &impl Wait,
+    alloc: Global,
+    cluster: &Cluster<N, D, S, K>,
+    ended: &AtomicU64,
+    threads: u32,
+    site: SiteId,
+) -> bool
+    requires { site.0 < length N.origins }
+{
+    for _ in 0..PATIENCE {
+        ended.park_timeout(rt, threads, Duration::from_micros(PAUSE));
+        if matches!(cluster.pump(rt, alloc, site, BATCH), Ok(Pumped::Did)) {
+            return false;
+        }
+    }
+    true
 }
