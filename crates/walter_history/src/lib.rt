@@ -6,6 +6,7 @@ mod history;
 mod line;
 mod lines;
 mod reach;
+mod room;
 mod rows;
 mod steps;
 mod versions;

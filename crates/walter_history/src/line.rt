@@ -6,6 +6,7 @@ ghost use Rattle.walter_history.specs.Folded.{appended, Folds};
 ghost use Rattle.walter_history.specs.Lines.{line_in, kept_by};
 
 use crate::folding::fold_writes;
+use crate::room::make_spare;
 use crate::rows::last_seen;
 use crate::steps::Steps;
 use crate::versions::Versions;
@@ -42,7 +43,7 @@ pub fn make_room(line: &mut Line, k: u64) -> Mem<()>
     ensures more { (line_in line.old).room ≤ (line_in line.new).room }
 {
     line.versions.reserve(k)?;
-    line.writes.reserve(k as usize)?;
+    make_spare(&mut line.writes, k)?;
     line.steps.reserve(k)
 }
 

@@ -8,6 +8,7 @@ ghost use Rattle.walter_history.specs.Rows.{sees_row};
 ghost use Rattle.walter_history.specs.Steps.{told, AreLinked, AreSeenBefore, AreBehind};
 
 use crate::reach::{is_covered, no_reach, with_version};
+use crate::room::make_spare;
 use std::alloc::Global;
 use std::marker::Model;
 use walter_base::{Mem, Row, Vts};
@@ -53,8 +54,7 @@ impl Steps {
         ensures enough { OnOk result (k ≤ self.new.room) }
         ensures more { self.old.room ≤ self.new.room }
     {
-        self.items.reserve(k as usize)?;
-        Ok(())
+        make_spare(&mut self.items, k)
     }
 
     /// Puts a row behind the others, without taking memory.

@@ -4,6 +4,7 @@ ghost use Rattle.std.specs.Prelude.{◌≡◌, ◌<◌, ◌≤◌, ◌+◌, ◌+
 ghost use Rattle.walter_base.specs.Conflicts.{first_outside};
 
 use crate::reach::{is_covered, no_reach, with_version};
+use crate::room::make_spare;
 use crate::rows::all_seen;
 use std::alloc::Global;
 use std::marker::Model;
@@ -46,8 +47,7 @@ impl Versions {
         ensures enough { OnOk result (k ≤ self.new.room) }
         ensures more { self.old.room ≤ self.new.room }
     {
-        self.items.reserve(k as usize)?;
-        Ok(())
+        make_spare(&mut self.items, k)
     }
 
     /// Puts a version behind the others, without taking memory.
