@@ -28,12 +28,10 @@ use Rattle.walter_checkpoint.specs.Books.{disk_of, StandsFor}
 use Rattle.walter_checkpoint.specs.declared.book.Book.{Book}
 use Rattle.walter_machine.specs.declared.machine.Machine.{Machine}
 use Rattle.walter_machine.specs.declared.ready.Ready.{Ready}
-use Rattle.walter_machine.specs.declared.ready.Step.{Step}
-use Rattle.walter_machine.specs.declared.ready.Step.TheVariants.{Answer, Apply, Fall, Rise}
-use Rattle.walter_machine.specs.Steps.{IsStep, record_of, outcome_of, sends_of}
+use Rattle.walter_machine.specs.Steps.{Step, Answer, Apply, Fall, Rise, IsStep, record_of, outcome_of, sends_of}
 use Rattle.walter_machine.specs.Comings.{IsRest, is_faulty}
 use Rattle.walter_machine.specs.Machines.{catalog_in, tables_in, HasStanding}
-use Rattle.walter_machine.specs.Readiness.{rec_in, came_in, IsReadyFor, IsReadyAnyway}
+use Rattle.walter_machine.specs.Readiness.{step_in, rec_in, came_in, IsReadyFor, IsReadyAnyway}
 use Rattle.walter_record.specs.Spelling.{record_spelled, HasRecordSpelling}
 use Rattle.walter_rules.specs.declared.entry.Came.{Came}
 use Rattle.walter_rules.specs.declared.event.Event.TheVariants.{Restart}
@@ -59,7 +57,7 @@ rises_by catalog i S (Rise tables epoch) rec is some = (refl, refl)
 
 pub rises : (catalog : Catalog) (i : SiteId) (ready : Ready) (rec : Record) → IsReadyAnyway catalog i None Restart ready
     → rec_in ready ≡ Some rec → ((came_in ready).outcome ≡ Taken) × ((came_in ready).sends ≡ [])
-rises catalog i ready rec anyway some = rises_by catalog i anyway.S ready.step rec anyway.ready_for.step some
+rises catalog i ready rec anyway some = rises_by catalog i anyway.S (step_in ready) rec anyway.ready_for.step some
 
 -- a restart is ready behind the bodies that the tables stand for
 pub is_ready_over : (catalog : Catalog) (i : SiteId) (bodies : List (List ℕ)) (tables : Tables) (ready : Ready)

@@ -7,13 +7,11 @@ use Rattle.walter_base.specs.declared.message.Request.TheVariants.{Level as Leve
 use Rattle.walter_base.specs.declared.names.SiteId.{SiteId}
 use Rattle.walter_base.specs.declared.names.Tid.{Tid}
 use Rattle.walter_machine.specs.declared.ready.Ready.{Ready}
-use Rattle.walter_machine.specs.declared.ready.Step.{Step}
-use Rattle.walter_machine.specs.declared.ready.Step.TheVariants.{Answer, Fall}
+use Rattle.walter_machine.specs.Steps.{Step, Answer, Fall, came_of, outcome_of, record_of, sends_of, expected_by, IsIdle, IsStep}
 use Rattle.walter_machine.specs.Comings.{IsSized, is_faulty}
 use Rattle.walter_machine.specs.Debts.{IsDebtOf, gone_first}
-use Rattle.walter_machine.specs.Readiness.{IsReadyFor}
+use Rattle.walter_machine.specs.Readiness.{step_in, IsReadyFor}
 use Rattle.walter_machine.specs.States.{CanBeNext}
-use Rattle.walter_machine.specs.Steps.{came_of, outcome_of, record_of, sends_of, expected_by, IsIdle, IsStep}
 use Rattle.walter_machine.proofs.Behind.{idle_up}
 use Rattle.walter_machine.proofs.Sizes.{none_sent, faultless}
 use Rattle.walter_packet.specs.Framed.{frame_of}
@@ -39,7 +37,7 @@ expects outcome = record { wrote = None; outcome = outcome; sends = [] }
 
 -- so it is ready where the step is this
 abbrev IsReadyBy : Catalog → SiteId → Option Tables → Standing → Event → Step → Type 0
-IsReadyBy catalog i site S event step = (ready : Ready) → ready.step ≡ step → ready.frames.items ≡ []
+IsReadyBy catalog i site S event step = (ready : Ready) → step_in ready ≡ step → ready.frames.items ≡ []
     → IsReadyFor catalog i site S event ready
 
 -- an answer that changes nothing

@@ -5,10 +5,9 @@ use Rattle.std.specs.Prelude.{IfSome, is_some}
 use Rattle.walter_base.specs.declared.catalog.Catalog.{Catalog}
 use Rattle.walter_base.specs.declared.message.Record.{Record}
 use Rattle.walter_base.specs.declared.names.SiteId.{SiteId}
-use Rattle.walter_machine.specs.declared.ready.Step.TheVariants.{Answer, Apply, Fall, Rise}
+use Rattle.walter_machine.specs.Steps.{Answer, Apply, Fall, Rise, came_of, IsIdle, IsPlan, IsPlanOf, IsRise, IsStop, IsKnownBy, Steps}
 use Rattle.walter_machine.specs.Debts.{sessions_lost}
 use Rattle.walter_machine.specs.States.{IsOf, IsState}
-use Rattle.walter_machine.specs.Steps.{came_of, IsIdle, IsPlan, IsPlanOf, IsRise, IsStop, IsKnownBy, Steps}
 use Rattle.walter_rules.specs.declared.entry.Came.{Came}
 use Rattle.walter_rules.specs.declared.event.Event.{Event}
 use Rattle.walter_rules.specs.declared.event.Event.TheVariants.{Given, Stop, Restart}

@@ -1,7 +1,7 @@
 -- What is ready where a plan is made, and where the next epoch is.
 use Rattle.std.specs.Global.{Box}
 use Rattle.std.proofs.Common.{◌≡◌, ◌∙◌, ℕ, ◌+◌, Bool, true, false, [], map, Option, Some, None, Result, Ok, Err, refl, sym, ap, subst}
-use Rattle.std.specs.Prelude.{All, IfOk, IfSome, is_some}
+use Rattle.std.specs.Prelude.{All, IfSome, OnOk, is_some}
 use Rattle.walter_base.specs.declared.catalog.Catalog.{Catalog}
 use Rattle.walter_base.specs.declared.message.BadFrame.{BadFrame as Bad}
 use Rattle.walter_base.specs.declared.message.Record.{Record}
@@ -11,13 +11,11 @@ use Rattle.walter_base.specs.declared.names.SiteId.{SiteId}
 use Rattle.walter_base.specs.declared.names.Tid.{Tid}
 use Rattle.walter_base.specs.Sizes.{CanBeRecorded}
 use Rattle.walter_machine.specs.declared.ready.Ready.{Ready}
-use Rattle.walter_machine.specs.declared.ready.Step.{Step}
-use Rattle.walter_machine.specs.declared.ready.Step.TheVariants.{Apply, Rise}
+use Rattle.walter_machine.specs.Steps.{Step, Apply, Rise, came_of, outcome_of, record_of, sends_of, expected_by, IsStep, IsPlanOf, IsRise}
 use Rattle.walter_machine.specs.Comings.{IsSized, is_faulty}
 use Rattle.walter_machine.specs.Debts.{IsDebtOf, gone_first}
-use Rattle.walter_machine.specs.Readiness.{IsReadyFor}
+use Rattle.walter_machine.specs.Readiness.{step_in, IsReadyFor}
 use Rattle.walter_machine.specs.States.{CanBeNext, IsOf, IsUp}
-use Rattle.walter_machine.specs.Steps.{came_of, outcome_of, record_of, sends_of, expected_by, IsStep, IsPlanOf, IsRise}
 use Rattle.walter_machine.proofs.Behind.{plan_stays}
 use Rattle.walter_machine.proofs.Calls.{record_takes}
 use Rattle.walter_machine.proofs.Records.{recordable}
@@ -38,8 +36,7 @@ use Rattle.walter_rules.specs.Standing.{Standing, unmade}
 use Rattle.walter_rules.specs.Trails.{TakesMemory}
 use Rattle.walter_site.specs.declared.plan.Plan.{Plan}
 use Rattle.walter_site.specs.Members.{Knows, IsShortOutcome, input_rule}
-use Rattle.walter_site.specs.Plans.{CanKeepAny, IsReady}
-use Rattle.walter_tables.specs.declared.made.Made.{Made}
+use Rattle.walter_site.specs.Plans.{IsReady}
 use Rattle.walter_tables.specs.declared.tables.Tables.{Tables}
 use Rattle.walter_tables.specs.Planning.{expected_of}
 use Rattle.walter_tables.specs.Sites.{site_of, catalog_of, Stands}
@@ -90,7 +87,7 @@ pub plan_ready : (catalog : Catalog) (i : SiteId) (S : Standing) (old new : Tabl
     → IfSome plan.planned.rec (CanFollow (catalog_of old) (site_of old) S.knows)
     → IfSome plan.planned.rec (IsRecordAmong (catalog_of old).sites)
     → IsShortOutcome plan.planned.outcome → All (λ s. HasPacketSpelling catalog.sites s.1) plan.planned.sends
-    → (ready : Ready) → ready.step ≡ Apply plan
+    → (ready : Ready) → step_in ready ≡ Apply plan
     → ready.frames.items ≡ map (λ s. frame_of catalog.sites s.1) plan.planned.sends
     → IsReadyFor catalog i (Some new) S (Given input) ready
 plan_ready catalog i S old new input owing plan site_is catalog_is same_site same_catalog up owes first knows ruled made follows sizes short spelled ready is framed =
@@ -143,7 +140,7 @@ plan_ready catalog i S old new input owing plan site_is catalog_is same_site sam
 pub boot_ready : (tables new : Tables) (boxed : Box Tables) (S : Standing) (epoch : ℕ) (ready : Ready) → S.up ≡ false
     → epoch ≡ S.knows.epoch + 1 → site_of new ≡ site_of tables → catalog_of new ≡ catalog_of tables
     → Stands new (recorded (catalog_of tables) (site_of tables) (Some (Boot epoch)) S.knows)
-    → boxed.value ≡ new → ready.step ≡ Rise boxed epoch → ready.frames.items ≡ []
+    → boxed.value ≡ new → step_in ready ≡ Rise boxed epoch → ready.frames.items ≡ []
     → IsReadyFor (catalog_of tables) (site_of tables) None S Restart ready
 boot_ready tables new boxed S epoch ready down next site catalog stands same is framed =
     record {
@@ -170,9 +167,9 @@ unmade_with K = record unmade { knows = K }
 abbrev pub up_owing : Knowledge → (ℕ → Option Tid) → Standing
 up_owing K gone = record unmade { up = true; knows = K; gone = gone }
 
-pub if_ok : {T E : Type 0} (r : Result T E) (P Q : T → Type 0) → ((x : T) → P x → Q x) → IfOk r P → IfOk r Q
-if_ok (Ok x) P Q so p = so x p
-if_ok (Err e) P Q so p = tt
+pub on_ok : {T E : Type 0} (r : Result T E) (P Q : Type 0) → (P → Q) → OnOk r P → OnOk r Q
+on_ok (Ok x) P Q so p = so p
+on_ok (Err e) P Q so p = tt
 
 -- what is so of the site of the tables is so of this one
 pub at_site : (P : Catalog → SiteId → Type 0) (t : Tables) (catalog : Catalog) (i : SiteId) → IsOf catalog i t

@@ -11,14 +11,12 @@ use Rattle.walter_base.specs.ByClient.{of_client}
 use Rattle.walter_base.specs.Sizes.{CanBeRecorded}
 use Rattle.walter_machine.specs.declared.machine.Machine.{Machine}
 use Rattle.walter_machine.specs.declared.ready.Ready.{Ready}
-use Rattle.walter_machine.specs.declared.ready.Step.{Step}
-use Rattle.walter_machine.specs.declared.ready.Step.TheVariants.{Answer, Apply, Fall, Rise}
+use Rattle.walter_machine.specs.Steps.{Step, Answer, Apply, Fall, Rise, came_of, outcome_of, record_of, sends_of, IsIdle, IsStep, Steps, flight_behind, records_behind}
 use Rattle.walter_machine.specs.Comings.{IsRest}
 use Rattle.walter_machine.specs.Debts.{IsDebtOf, owed_by, sessions_lost}
 use Rattle.walter_machine.specs.Machines.{is_up, HasRoom, HasStanding, IsCounted, AreFound, Settles}
-use Rattle.walter_machine.specs.Readiness.{IsReadyFor, rec_in, came_in}
+use Rattle.walter_machine.specs.Readiness.{step_in, IsReadyFor, rec_in, came_in}
 use Rattle.walter_machine.specs.States.{AreTold, CanBeNext, IsOf, IsState}
-use Rattle.walter_machine.specs.Steps.{came_of, outcome_of, record_of, sends_of, IsIdle, IsStep, Steps, flight_behind, records_behind}
 use Rattle.walter_machine.proofs.Behind.{idle_steps, stays_gone}
 use Rattle.walter_alone.proofs.Followed.{lost_recorded}
 use Rattle.walter_machine.proofs.Owing.{told_so}
@@ -252,27 +250,20 @@ keep_comes catalog layout i site S event ready is fits =
       outcome = ap (λ (x : Expected). x.outcome) is.rule;
       wrote = ap (λ (x : Expected). x.wrote) is.rule;
       flight = refl;
-      sends = subst (λ (x : Expected). IsPutOut S.carried x.sends (sends_of ready.step) 0) is.rule
-          (put_all S.carried (sends_of ready.step));
+      sends = subst (λ (x : Expected). IsPutOut S.carried x.sends (sends_of (step_in ready)) 0) is.rule
+          (put_all S.carried (sends_of (step_in ready)));
     })
 
-pub came_made : (alone : Came) (outcome : Outcome) (wrote : Option Record) (sends : List Send) (step : Step)
-    → alone ≡ only outcome → outcome ≡ outcome_of step → wrote ≡ record_of step → sends ≡ sends_of step
-    → record {
-      outcome = alone.outcome;
-      kept = alone.kept;
-      wrote = wrote;
-      flight = alone.flight;
-      sends = sends;
-      dropped = alone.dropped;
-    } ≡ came_of step
-came_made alone outcome wrote sends step is outcome_is wrote_is sends_is = λ j. record {
-  outcome = (ap (λ (c : Came). c.outcome) is ∙ outcome_is) j;
-  kept = ap (λ (c : Came). c.kept) is j;
+pub came_made : (outcome : Outcome) (kept wrote flight : Option Record) (sends : List Send) (step : Step)
+    → outcome ≡ outcome_of step → kept ≡ None → wrote ≡ record_of step → flight ≡ None → sends ≡ sends_of step
+    → record { outcome = outcome; kept = kept; wrote = wrote; flight = flight; sends = sends; dropped = 0 } ≡ came_of step
+came_made outcome kept wrote flight sends step outcome_is kept_is wrote_is flight_is sends_is = λ j. record {
+  outcome = outcome_is j;
+  kept = kept_is j;
   wrote = wrote_is j;
-  flight = ap (λ (c : Came). c.flight) is j;
+  flight = flight_is j;
   sends = sends_is j;
-  dropped = ap (λ (c : Came). c.dropped) is j;
+  dropped = 0;
 }
 
 -- what is in flight behind a step can be recorded, where it could before
@@ -317,7 +308,7 @@ pub kept_standing : (old new : Machine) (S : Standing) (event : Event) (ready : 
     → Steps old.catalog old.id S event (came_in ready) new.site new.lost
     → new.catalog ≡ old.catalog → new.id ≡ old.id
     → new.flight ≡ flight_behind (rec_in ready) old.flight → new.records ≡ records_behind (rec_in ready) old.records
-    → outcome ≡ outcome_of ready.step
+    → outcome ≡ outcome_of (step_in ready)
     → ((client : ℕ) → of_client client new.debts.entries
     ≡ told event outcome (λ c. of_client c old.debts.entries) client)
     → HasStanding new (stands_after old.catalog old.id S event came)
@@ -326,13 +317,13 @@ kept_standing old new S event ready came outcome is has counted ready_for unlost
       state = steps.state;
       told = subst (λ (c : Catalog). AreTold c new.id T) (sym catalog)
           (subst (λ (k : SiteId). AreTold old.catalog k T) (sym id)
-          (step_told old.catalog old.id old.site S event ready.step has.state ready_for.step ready_for.next has.told));
+          (step_told old.catalog old.id old.site S event (step_in ready) has.state ready_for.step ready_for.next has.told));
       flight = flight ∙ (ap (flight_behind (rec_in ready)) has.flight
-          ∙ step_flight old.catalog old.id old.site S event ready.step has.state ready_for.step);
-      count = λ which. records ∙ step_count old.catalog old.id old.site S event ready.step old.records has.state
+          ∙ step_flight old.catalog old.id old.site S event (step_in ready) has.state ready_for.step);
+      count = λ which. records ∙ step_count old.catalog old.id old.site S event (step_in ready) old.records has.state
           ready_for.step has.count (counted_if old S (rec_in ready) counted) which;
       owed = λ client. steps.gone client ∙ ap (owed (session_in client (sessions_lost new.lost))) (
-          told_so event (outcome_of ready.step) S.gone (λ c. of_client c old.debts.entries) client (λ c. has.owed c
+          told_so event (outcome_of (step_in ready)) S.gone (λ c. of_client c old.debts.entries) client (λ c. has.owed c
           ∙ ap (λ (l : Option Table). owed_by old.debts.entries l c) (lost_none old.lost unlost))
           ∙ (ap (λ (o : Outcome). told event o (λ c. of_client c old.debts.entries) client) (sym outcome_is)
           ∙ sym (forgiven client)));
@@ -404,7 +395,7 @@ failed_standing_by old new S event ready rec came outcome here is has counted re
         → sessions_lost new.lost ≡ (after old.catalog old.id S.knows event (failure event rec) None).sessions
     by None at down of loses =
         ap sessions_lost (none at)
-        ∙ sym (closed down (down_restarts old.catalog old.id old.site S event ready.step at ready_for.step
+        ∙ sym (closed down (down_restarts old.catalog old.id old.site S event (step_in ready) at ready_for.step
         (subst (λ (o : Option Record). IsSome o) (sym here) refl)))
     by (Some t) at up of loses =
         loses up.knows ∙ (λ j. (after (of.1 j) (of.0 j) S.knows event (outcome_is j) None).sessions)

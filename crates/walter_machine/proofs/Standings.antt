@@ -7,11 +7,9 @@ use Rattle.walter_base.specs.declared.message.Record.{Record}
 use Rattle.walter_base.specs.declared.message.Record.TheVariants.{Boot, Own, SlowBegin}
 use Rattle.walter_base.specs.declared.names.SiteId.{SiteId}
 use Rattle.walter_base.specs.declared.names.Tid.{Tid}
-use Rattle.walter_machine.specs.declared.ready.Step.{Step}
-use Rattle.walter_machine.specs.declared.ready.Step.TheVariants.{Answer, Apply, Fall, Rise}
+use Rattle.walter_machine.specs.Steps.{Step, Answer, Apply, Fall, Rise, came_of, record_of, IsIdle, IsStep, flight_behind}
 use Rattle.walter_machine.specs.Comings.{IsFall}
 use Rattle.walter_machine.specs.States.{AreTold, CanBeNext, IsState}
-use Rattle.walter_machine.specs.Steps.{came_of, record_of, IsIdle, IsStep, flight_behind}
 use Rattle.walter_machine.proofs.Behind.{none_flies, stays_knows, stays_up, stays_gone, falls_up, falls_knows, falls_gone, plan_stays}
 use Rattle.walter_machine.proofs.Records.{told_more, told_same, still_can, lost_after, booted_behind}
 use Rattle.walter_rules.specs.declared.entry.Came.{Came}

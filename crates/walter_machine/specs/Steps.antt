@@ -1,11 +1,12 @@
 -- What an event does to a site, and what it leaves of it.
 use Rattle.std.specs.Prelude.{◌≡◌, ◌+◌, ℕ, false, List, [], Option, Some, None, IfSome}
+use Rattle.std.specs.Global.{Box}
 use Rattle.walter_base.specs.declared.catalog.Catalog.{Catalog}
 use Rattle.walter_base.specs.declared.message.Record.{Record}
 use Rattle.walter_base.specs.declared.message.Record.TheVariants.{Boot}
 use Rattle.walter_base.specs.declared.names.SiteId.{SiteId}
-use Rattle.walter_machine.specs.declared.ready.Step.{Step}
-use Rattle.walter_machine.specs.declared.ready.Step.TheVariants.{Answer, Apply, Fall, Rise}
+use Rattle.walter_machine.specs.declared.ready.Kind.{Kind}
+use Rattle.walter_machine.specs.declared.ready.Kind.TheVariants as kind
 use Rattle.walter_machine.specs.Debts.{sessions_lost}
 use Rattle.walter_machine.specs.States.{IsOf, IsState}
 use Rattle.walter_rules.specs.declared.entry.Came.{Came}
@@ -28,6 +29,21 @@ use Rattle.walter_site.specs.Plans.{IsReady}
 use Rattle.walter_tables.specs.declared.tables.Tables.{Tables}
 use Rattle.walter_tables.specs.Planning.{expected_of}
 use Rattle.walter_tables.specs.Sites.{site_of, catalog_of, Stands}
+
+-- it is answered, and what the site knows stays; or the plan of an input is applied; or the site goes down; or it comes
+-- up in this epoch, with these tables behind its Boot
+pub data Step : Type 0 where
+  Answer : Outcome → Step
+  Apply : Plan → Step
+  Fall : Step
+  Rise : Box Tables → (epoch : ℕ) → Step
+
+-- what is of this kind, by this plan
+abbrev pub step_by : Kind → Plan → Step
+step_by kind.Answer plan = Answer plan.planned.outcome
+step_by kind.Apply plan = Apply plan
+step_by kind.Fall plan = Fall
+step_by (kind.Rise tables epoch) plan = Rise tables epoch
 
 -- ---- what it comes to
 

@@ -11,12 +11,12 @@ use crate::following::{count_in, follow, rec_of};
 use crate::losing::lose;
 use crate::outcomes::{failure, fullness, outcome_of_down, want};
 use crate::places::{make_places, place};
-use crate::preparing::{prepare_input, without_record};
-use crate::ready::{Ready, Step};
+use crate::preparing::{make_answer, make_fall, prepare_input};
+use crate::ready::{Kind, Ready};
 use indexmap::IndexMap;
 use std::alloc::Global;
 use std::mem;
-use walter_base::{Catalog, MaybeRecord, Mem, Record, RecordPlace, SiteId, Tid};
+use walter_base::{Catalog, MaybeRecord, Mem, Record, RecordPlace, Sends, SiteId, Tid};
 use walter_packet::Framed;
 use walter_rules::{Came, Event, Outcome};
 use walter_session::Sessions;
@@ -144,14 +144,15 @@ impl Machine {
 
     /// What is to come of an event at a site that is up, with the record that is to be stable first and the frames of
     /// what is put out. At a tick the rows are folded first. How a site comes up that is down `Ready::boot` says.
-    pub fn prepare(&mut self, event: &Event) -> Mem<Ready>
+    pub fn prepare(&mut self, event: &Event, ready: &mut Ready) -> Mem<()>
         requires sized { IsSizedEvent (catalog_in self.old).sites event.now }
         requires up { is_up self.old ≡ true }
         ensures ready { (S : Standing) → HasStanding self.old S
-            → IfOk result (IsReadyFor (catalog_in self.old) (site_in self.old) (tables_in self.new) S event.now) }
-        ensures anyway { IfOk result
-            (IsReadyAnyway (catalog_in self.old) (site_in self.old) (tables_in self.new) event.now) }
-        ensures countable { IfOk result (IsCountable self.new) }
+            → OnOk result
+            (IsReadyFor (catalog_in self.old) (site_in self.old) (tables_in self.new) S event.now ready.new) }
+        ensures anyway { OnOk result
+            (IsReadyAnyway (catalog_in self.old) (site_in self.old) (tables_in self.new) event.now ready.new) }
+        ensures countable { OnOk result (IsCountable self.new ready.new) }
         ensures free { OnErr result (TakesMemory true event.now) }
         ensures tidy { event.now ≡ happens.Given inputs.Tick → IfSome (tables_in self.new) IsTidy }
         ensures stands { (S : Standing) → HasStanding self.old S → HasStanding self.new S }
@@ -167,10 +168,17 @@ impl Machine {
         match event {
             Event::Given(input) => {
                 let owed = debt_of(&self.debts, input);
-                prepare_input(alloc, site, owed, self.catalog.sites, self.records, input)
+                let sites = self.catalog.sites;
+                prepare_input(alloc, site, owed, sites, self.records, input, ready)
             }
-            Event::Stop => Ok(without_record(alloc, Step::Fall)),
-            Event::Restart => Ok(without_record(alloc, Step::Answer(Outcome::Passed))),
+            Event::Stop => {
+                make_fall(alloc, ready);
+                Ok(())
+            }
+            Event::Restart => {
+                make_answer(alloc, ready, Outcome::Passed);
+                Ok(())
+            }
         }
     }
 
@@ -216,65 +224,74 @@ impl Machine {
     }
 
     /// The event comes; its record, if there is one, is stable. It takes no memory.
-    pub fn keep(&mut self, event: &Event, ready: Ready) -> (Came, Vec<Framed>)
+    pub fn keep(&mut self, event: &Event, ready: &mut Ready) -> (Came, Vec<Framed>)
         requires room { is_up self.old ≡ false → HasRoom self.old }
-        requires countable { IsCountable self.old ready }
-        requires anyway { IsReadyAnyway (catalog_in self.old) (site_in self.old) (tables_in self.old) event.now ready }
-        ensures came { result.0 ≡ came_in ready }
-        ensures framed { result.1.items ≡ ready.frames.items }
+        requires countable { IsCountable self.old ready.old }
+        requires anyway { IsReadyAnyway (catalog_in self.old) (site_in self.old) (tables_in self.old) event.now ready.old }
+        ensures came { result.0 ≡ came_in ready.old }
+        ensures framed { result.1.items ≡ ready.old.frames.items }
         ensures comes { (layout : Layout) (S : Standing)
-            → IsReadyFor (catalog_in self.old) (site_in self.old) (tables_in self.old) S event.now ready
-            → IfSome (rec_in ready) (FitsIn layout S)
+            → IsReadyFor (catalog_in self.old) (site_in self.old) (tables_in self.old) S event.now ready.old
+            → IfSome (rec_in ready.old) (FitsIn layout S)
             → Comes (catalog_in self.old) layout (site_in self.old) S event.now result.0 }
-        ensures stands { (S : Standing) → HasStanding self.old S → IsCounted self.old S (rec_in ready)
-            → IsReadyFor (catalog_in self.old) (site_in self.old) (tables_in self.old) S event.now ready
+        ensures stands { (S : Standing) → HasStanding self.old S → IsCounted self.old S (rec_in ready.old)
+            → IsReadyFor (catalog_in self.old) (site_in self.old) (tables_in self.old) S event.now ready.old
             → HasStanding self.new (stands_after (catalog_in self.old) (site_in self.old) S event.now result.0) }
         ensures up { is_up self.new ≡ up_after event.now result.0.outcome (is_up self.old) }
         ensures tick { event.now ≡ happens.Given inputs.Tick → tables_in self.new ≡ tables_in self.old }
         ensures same { IsSameSite self.old self.new }
     {
-        let Ready {
-            step,
-            rec: wrote,
-            frames,
-        } = ready;
+        let kind = mem::replace(&mut ready.kind, Kind::Fall);
+        let wrote = mem::replace(&mut ready.rec, MaybeRecord::none());
         let flight = mem::replace(&mut self.flight, MaybeRecord::none());
         let (records, flight) = count_in(&wrote, self.records, flight);
         self.records = records;
         self.flight = flight;
-        let (outcome, sends) = follow(self.alloc, &mut self.site, &mut self.lost, event, step);
-        forgive(&mut self.debts, event, &outcome);
+        let plan = &mut ready.plan;
+        follow(
+            self.alloc,
+            &mut self.site,
+            &mut self.lost,
+            event,
+            kind,
+            plan,
+        );
+        forgive(&mut self.debts, event, &plan.planned.outcome);
         let came = Came {
+            outcome: mem::replace(&mut plan.planned.outcome, Outcome::Taken),
+            kept: MaybeRecord::none(),
             wrote,
-            sends,
-            ..Came::only(self.alloc, outcome)
+            flight: MaybeRecord::none(),
+            sends: mem::replace(&mut plan.planned.sends, Sends::from(Vec::new(self.alloc))),
+            dropped: 0,
         };
-        (came, frames)
+        (came, mem::replace(&mut ready.frames, Vec::new(self.alloc)))
     }
 
     /// The record of the event met a fault of the disk: it is in flight, and the site is down. It takes no memory.
-    pub fn fail(&mut self, event: &Event, ready: Ready) -> Came
+    pub fn fail(&mut self, event: &Event, ready: &mut Ready) -> Came
         requires room { is_up self.old ≡ false → HasRoom self.old }
-        requires anyway { IsReadyAnyway (catalog_in self.old) (site_in self.old) (tables_in self.old) event.now ready }
-        requires flies { IsSome (rec_in ready) }
-        ensures came { IfSome (rec_in ready) (λ rec.
+        requires anyway { IsReadyAnyway (catalog_in self.old) (site_in self.old) (tables_in self.old) event.now ready.old }
+        requires flies { IsSome (rec_in ready.old) }
+        ensures came { IfSome (rec_in ready.old) (λ rec.
             result ≡ record (only (failure event.now rec)) { flight = Some rec }) }
         ensures comes { (layout : Layout) (S : Standing)
-            → IsReadyFor (catalog_in self.old) (site_in self.old) (tables_in self.old) S event.now ready
-            → IfSome (rec_in ready) (FitsIn layout S)
+            → IsReadyFor (catalog_in self.old) (site_in self.old) (tables_in self.old) S event.now ready.old
+            → IfSome (rec_in ready.old) (FitsIn layout S)
             → Comes (catalog_in self.old) layout (site_in self.old) S event.now result }
-        ensures stands { (S : Standing) → HasStanding self.old S → IsCounted self.old S (rec_in ready)
-            → IsReadyFor (catalog_in self.old) (site_in self.old) (tables_in self.old) S event.now ready
+        ensures stands { (S : Standing) → HasStanding self.old S → IsCounted self.old S (rec_in ready.old)
+            → IsReadyFor (catalog_in self.old) (site_in self.old) (tables_in self.old) S event.now ready.old
             → HasStanding self.new (stands_after (catalog_in self.old) (site_in self.old) S event.now result) }
         ensures down { tables_in self.new ≡ None }
         ensures same { IsSameSite self.old self.new }
     {
-        let Ready { step, rec, .. } = ready;
+        let kind = mem::replace(&mut ready.kind, Kind::Fall);
+        let rec = mem::replace(&mut ready.rec, MaybeRecord::none());
         let Some(failed) = rec.as_ref() else {
             unreachable!()
         };
         let outcome = failure(event, failed);
-        self.flight = place(&mut self.places, rec_of(step));
+        self.flight = place(&mut self.places, rec_of(kind, &mut ready.plan));
         lose(&mut self.site, &mut self.lost, event, &outcome);
         Came {
             flight: rec,
@@ -283,15 +300,15 @@ impl Machine {
     }
 
     /// The record of the event found no place: so many bytes are needed, and so many left. The site stands as before.
-    pub fn overflow(&mut self, event: &Event, ready: Ready, need: u64, left: u64) -> Came
-        requires flies { IsSome (rec_in ready) }
+    pub fn overflow(&mut self, event: &Event, ready: &Ready, need: u64, left: u64) -> Came
+        requires flies { IsSome (rec_in ready.now) }
         ensures came { result ≡ only (fullness event.now need left) }
         ensures comes { (layout : Layout) (S : Standing)
-            → IsReadyFor (catalog_in self.old) (site_in self.old) (tables_in self.old) S event.now ready
-            → IfSome (rec_in ready) (λ rec. (need ≡ need_of rec) × (left ≡ left_behind layout S) × (left < need))
+            → IsReadyFor (catalog_in self.old) (site_in self.old) (tables_in self.old) S event.now ready.now
+            → IfSome (rec_in ready.now) (λ rec. (need ≡ need_of rec) × (left ≡ left_behind layout S) × (left < need))
             → Comes (catalog_in self.old) layout (site_in self.old) S event.now result }
         ensures stands { (S : Standing) → HasStanding self.old S
-            → IsReadyFor (catalog_in self.old) (site_in self.old) (tables_in self.old) S event.now ready
+            → IsReadyFor (catalog_in self.old) (site_in self.old) (tables_in self.old) S event.now ready.now
             → HasStanding self.new (stands_after (catalog_in self.old) (site_in self.old) S event.now result) }
         ensures tables { tables_in self.new ≡ tables_in self.old }
         ensures same { IsSameSite self.old self.new }

@@ -1,10 +1,10 @@
-ghost use Rattle.std.specs.Prelude.{◌≡◌, ◌≢◌, ◌≤◌, ◌<◌, ◌+◌, ◌^◌, ℕ, [], map, true, is_some, All, IfOk, IsSome, OnErr, Option, Some, None};
+ghost use Rattle.std.specs.Prelude.{◌≡◌, ◌≢◌, ◌≤◌, ◌<◌, ◌+◌, ◌^◌, ℕ, [], map, true, is_some, All, IfOk, IsSome, OnErr, OnOk, Option, Some, None};
 ghost use Rattle.walter_base.specs.declared.names.Tid.{Tid as Named};
 ghost use Rattle.walter_base.specs.Vectors.{most_sites};
 ghost use Rattle.walter_machine.specs.Debts.{IsDebtOf, gone_first};
-ghost use Rattle.walter_machine.specs.Readiness.{IsReadyFor, IsReadyAnyway, rec_in};
+ghost use Rattle.walter_machine.specs.Readiness.{IsReadyFor, IsReadyAnyway, rec_in, step_in};
 ghost use Rattle.walter_machine.specs.States.{IsUp};
-ghost use Rattle.walter_machine.specs.Steps.{record_of};
+ghost use Rattle.walter_machine.specs.Steps.{Answer, Fall};
 ghost use Rattle.walter_packet.specs.Framed.{frame_of};
 ghost use Rattle.walter_packet.specs.Spelling.{HasPacketSpelling};
 ghost use Rattle.walter_rules.specs.declared.event.Event.{Event as Happens};
@@ -16,25 +16,32 @@ ghost use Rattle.walter_tables.specs.Folding.{IsTidy};
 ghost use Rattle.walter_tables.specs.Sites.{site_of, catalog_of};
 
 use crate::outcomes::gone_first;
-use crate::ready::{Ready, Step};
+use crate::ready::{Kind, Ready};
 use std::alloc::Global;
 use walter_base::{MaybeRecord, Mem, NoMemory, Refusal, Reply, Sends, Tid};
 use walter_packet::Framed;
 use walter_rules::{Input, Outcome};
 use walter_site::Site;
 
-/// An event without a record, and without packets.
-pub fn without_record(alloc: Global, step: Step) -> Ready
-    requires { record_of step ≡ None }
-    ensures step { result.step ≡ step }
-    ensures rec { result.rec ≡ None }
-    ensures frames { result.frames.items ≡ [] }
+/// An answer alone is ready: no record, and no packets.
+pub fn make_answer(alloc: Global, ready: &mut Ready, outcome: Outcome)
+    ensures step { step_in ready.new ≡ Answer outcome }
+    ensures frames { ready.new.frames.items ≡ [] }
 {
-    Ready {
-        step,
-        rec: MaybeRecord::none(),
-        frames: Vec::new(alloc),
-    }
+    ready.kind = Kind::Answer;
+    ready.plan.planned.outcome = outcome;
+    ready.rec = MaybeRecord::none();
+    ready.frames = Vec::new(alloc);
+}
+
+/// The fall of a site is ready.
+pub fn make_fall(alloc: Global, ready: &mut Ready)
+    ensures step { step_in ready.new ≡ Fall }
+    ensures frames { ready.new.frames.items ≡ [] }
+{
+    ready.kind = Kind::Fall;
+    ready.rec = MaybeRecord::none();
+    ready.frames = Vec::new(alloc);
 }
 
 /// What an input comes to at a site that has so many records. Its client is owed the news of this transaction, or of
@@ -46,29 +53,31 @@ pub fn prepare_input(
     sites: u8,
     records: u64,
     input: &Input,
-) -> Mem<Ready>
+    ready: &mut Ready,
+) -> Mem<()>
     requires most { sites ≤ most_sites }
     requires among { (catalog_of site.old).sites ≡ sites }
     requires sized { IsSizedInput sites input.now }
-    ensures ready { (S : Standing) → IsUp S site.old → IsDebtOf S.gone input.now owed → IfOk result
-        (IsReadyFor (catalog_of site.old) (site_of site.old) (Some site.new) S (Happens.Given input.now)) }
+    ensures ready { (S : Standing) → IsUp S site.old → IsDebtOf S.gone input.now owed → OnOk result
+        (IsReadyFor (catalog_of site.old) (site_of site.old) (Some site.new) S (Happens.Given input.now) ready.new) }
     ensures free { OnErr result (TakesMemory true (Happens.Given input.now)) }
     ensures state { (S : Standing) → IsUp S site.old → IsUp S site.new }
     ensures site { site_of site.new ≡ site_of site.old }
     ensures catalog { catalog_of site.new ≡ catalog_of site.old }
     ensures tidy { input.now ≡ Asked.Tick → IsTidy site.new }
-    ensures countable { IfOk result (λ ready. IsSome (rec_in ready) → records + 1 < 2 ^ 64) }
-    ensures anyway { (gone : ℕ → Option Named) → IsDebtOf gone input.now owed → IfOk result
-        (IsReadyAnyway (catalog_of site.old) (site_of site.old) (Some site.new) (Happens.Given input.now)) }
+    ensures countable { OnOk result (IsSome (rec_in ready.new) → records + 1 < 2 ^ 64) }
+    ensures anyway { (gone : ℕ → Option Named) → IsDebtOf gone input.now owed → OnOk result
+        (IsReadyAnyway (catalog_of site.old) (site_of site.old) (Some site.new) (Happens.Given input.now) ready.new) }
 {
     match gone_first(owed, input) {
         Some(tid) => {
             let outcome = Outcome::Replied(Reply::Refused(Refusal::Gone { tid }));
-            Ok(without_record(alloc, Step::Answer(outcome)))
+            make_answer(alloc, ready, outcome);
+            Ok(())
         }
         None => {
             tidy_at(site, input);
-            plan(alloc, site, sites, records, input)
+            plan(alloc, site, sites, records, input, ready)
         }
     }
 }
@@ -86,29 +95,36 @@ fn tidy_at(site: &mut Site, input: &Input)
 }
 
 // What it comes to at a site that is up and asked.
-fn plan(alloc: Global, site: &mut Site, sites: u8, records: u64, input: &Input) -> Mem<Ready>
+fn plan(
+    alloc: Global,
+    site: &mut Site,
+    sites: u8,
+    records: u64,
+    input: &Input,
+    ready: &mut Ready,
+) -> Mem<()>
     requires most { sites ≤ most_sites }
     requires among { (catalog_of site.old).sites ≡ sites }
     requires sized { IsSizedInput sites input.now }
     ensures ready { (S : Standing) (owed : Option Named) → IsUp S site.old → IsDebtOf S.gone input.now owed
-        → gone_first owed input.now ≡ None → IfOk result
-        (IsReadyFor (catalog_of site.old) (site_of site.old) (Some site.new) S (Happens.Given input.now)) }
+        → gone_first owed input.now ≡ None → OnOk result
+        (IsReadyFor (catalog_of site.old) (site_of site.old) (Some site.new) S (Happens.Given input.now) ready.new) }
     ensures free { OnErr result (TakesMemory true (Happens.Given input.now)) }
     ensures state { (S : Standing) → IsUp S site.old → IsUp S site.new }
     ensures site { site_of site.new ≡ site_of site.old }
     ensures catalog { catalog_of site.new ≡ catalog_of site.old }
     ensures rests { input.now ≡ Asked.Tick → site.new ≡ site.old }
-    ensures countable { IfOk result (λ ready. IsSome (rec_in ready) → records + 1 < 2 ^ 64) }
+    ensures countable { OnOk result (IsSome (rec_in ready.new) → records + 1 < 2 ^ 64) }
     ensures standing { IsStanding site.old }
 {
-    let plan = site.plan(input)?;
-    let frames = frame_all(alloc, &plan.planned.sends, sites)?;
-    let rec = copy_any(alloc, &plan.planned.rec, records)?;
-    Ok(Ready {
-        step: Step::Apply(plan),
-        rec,
-        frames,
-    })
+    // Where memory runs out, nothing is ready.
+    ready.kind = Kind::Fall;
+    ready.rec = MaybeRecord::none();
+    site.plan(input, &mut ready.plan)?;
+    ready.frames = frame_all(alloc, &ready.plan.planned.sends, sites)?;
+    ready.rec = copy_any(alloc, &ready.plan.planned.rec, records)?;
+    ready.kind = Kind::Apply;
+    Ok(())
 }
 
 // A copy of a record, where there is one, that comes behind so many.

@@ -1,5 +1,5 @@
 ghost use Rattle.std.specs.Prelude.{◌≡◌, ◌+◌, Some, None, false, IfOk, IfErr, IfSome, IfNone, Err};
-ghost use Rattle.walter_machine.specs.Steps.{record_of};
+ghost use Rattle.walter_machine.specs.Steps.{record_of, step_by};
 ghost use Rattle.walter_rules.specs.Knowledge.{Knowledge};
 ghost use Rattle.walter_rules.specs.Standing.{Standing};
 ghost use Rattle.walter_rules.specs.declared.event.Event.TheVariants as event;
@@ -8,33 +8,34 @@ ghost use Rattle.walter_tables.specs.Sites.{values_of, site_of, catalog_of, Stan
 use std::alloc::Global;
 use walter_base::{MaybeRecord, Record, RecordPlace};
 use walter_packet::Framed;
-use walter_rules::Outcome;
 use walter_site::Plan;
 use walter_tables::Tables;
 
 /// What is to come of an event, with all that it takes. Contracts say by `IsReadyFor` of which event, and read it by
-/// `rec_in` and `came_in`.
+/// `step_in`, `rec_in` and `came_in`. It is large, so who prepares events makes it once for each, and has it filled
+/// where it stays.
 #[derive(Drop)]
 pub struct Ready {
-    pub(crate) step: Step,
+    pub(crate) kind: Kind,
+    // Of an answer the outcome alone counts.
+    pub(crate) plan: Plan,
     // The step's record, once more for the trail.
     pub(crate) rec: MaybeRecord,
     // The frames of the packets that are to be put out.
     pub(crate) frames: Vec<Framed>,
-    ghost copy: { rec ≡ record_of step },
+    ghost copy: { rec ≡ record_of (step_by kind plan) },
 }
 
 /// What an event does to the site.
 #[derive(Drop)]
-pub(crate) enum Step {
+pub(crate) enum Kind {
     /// It is answered, and what the site knows stays.
-    Answer(Outcome),
+    Answer,
     /// The plan of an input is applied.
-    Apply(Plan),
+    Apply,
     /// The site goes down.
     Fall,
-    /// The site comes up in this epoch, with these tables behind its Boot. They are large beside what other steps have,
-    /// and a step is moved for each event: so they lie on the heap.
+    /// The site comes up in this epoch, with these tables behind its Boot.
     Rise(Box<Tables>, u32),
 }
 
@@ -49,6 +50,18 @@ pub enum BootFault {
 
 impl Ready {
     ghost use Rattle.walter_machine.specs.Readiness.{IsReadyFor, IsReadyAnyway, rec_in};
+
+    /// Nothing is ready.
+    pub fn none(alloc: Global) -> Ready
+        ensures { rec_in result ≡ None }
+    {
+        Ready {
+            kind: Kind::Fall,
+            plan: Plan::none(alloc),
+            rec: MaybeRecord::none(),
+            frames: Vec::new(alloc),
+        }
+    }
 
     /// The next epoch of a site that is down, whose records tell these tables.
     pub fn boot(alloc: Global, mut tables: Tables) -> Result<Ready, BootFault>
@@ -74,7 +87,8 @@ impl Ready {
             return Err(BootFault::NoMemory);
         };
         Ok(Ready {
-            step: Step::Rise(tables, epoch),
+            kind: Kind::Rise(tables, epoch),
+            plan: Plan::none(alloc),
             rec: place.fill(Record::Boot(epoch)),
             frames: Vec::new(alloc),
         })

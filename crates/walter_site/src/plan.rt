@@ -1,5 +1,9 @@
+ghost use Rattle.std.specs.Prelude.{◌≡◌, None};
+
 use crate::maybe_made::MaybeMade;
-use walter_base::Update;
+use std::alloc::Global;
+use walter_base::{MaybeRecord, Sends, Update};
+use walter_rules::Outcome;
 use walter_tables::Planned;
 
 /// What is to come of an input, with all that applying it takes: what goes with its record, and the update that the
@@ -9,4 +13,21 @@ pub struct Plan {
     pub planned: Planned,
     pub made: MaybeMade,
     pub asked: Option<Update>,
+}
+
+impl Plan {
+    /// Nothing is to come. A plan is large, so who wants one makes it once, and lets it be filled where it stays.
+    pub fn none(alloc: Global) -> Plan
+        ensures { result.planned.rec ≡ None }
+    {
+        Plan {
+            planned: Planned {
+                rec: MaybeRecord::none(),
+                outcome: Outcome::Passed,
+                sends: Sends::from(Vec::new(alloc)),
+            },
+            made: MaybeMade::none(),
+            asked: None,
+        }
+    }
 }

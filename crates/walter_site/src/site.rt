@@ -1,15 +1,17 @@
-ghost use Rattle.std.specs.Prelude.{◌≡◌, All, IfOk, IfSome, OnErr, true};
+ghost use Rattle.std.specs.Prelude.{◌≡◌, All, IfSome, OnErr, OnOk, true};
 ghost use Rattle.walter_site.specs.Members.{IsStanding};
 
 use crate::applying::{keep_any, number_begun, take_in};
+use crate::maybe_made::MaybeMade;
 use crate::plan::Plan;
 use crate::planning::plan_input;
 use crate::readying::{make_ready, ready_answer};
 use std::marker::Model;
-use walter_base::{Mem, Sends, SiteId};
-use walter_rules::{Input, Outcome};
+use std::mem;
+use walter_base::{MaybeRecord, Mem, SiteId};
+use walter_rules::Input;
 use walter_session::Sessions;
-use walter_tables::{Planned, Tables};
+use walter_tables::Tables;
 
 /// A site that is up. Contracts see its tables, which stand for what some site knows.
 #[derive(Drop)]
@@ -66,17 +68,18 @@ impl Site {
     }
 
     /// The plan of the rule for an input. It takes all the memory that applying it needs, and changes nothing that can
-    /// be seen.
-    pub fn plan(&mut self, input: &Input) -> Mem<Plan>
+    /// be seen. Where memory runs out, nothing is known of the plan.
+    pub fn plan(&mut self, input: &Input, plan: &mut Plan) -> Mem<()>
         requires sized { IsSizedInput (catalog_of self.old).sites input.now }
-        ensures rule { IfOk result (λ p. (K : Knowledge) → Knows self.old K
-            → expected_of p.planned ≡ input_rule (catalog_of self.old) (site_of self.old) K input.now) }
-        ensures ready { IfOk result (IsReady self.new input.now) }
-        ensures follows { IfOk result (λ p. (K : Knowledge) → Knows self.old K
-            → IfSome p.planned.rec (CanFollow (catalog_of self.old) (site_of self.old) K)) }
-        ensures sizes { IfOk result (λ p. IfSome p.planned.rec (IsRecordAmong (catalog_of self.old).sites)) }
-        ensures short { IfOk result (λ p. IsShortOutcome p.planned.outcome) }
-        ensures sent { IfOk result (λ p. All (λ s. IsSizedPacket (catalog_of self.old).sites s.1) p.planned.sends) }
+        ensures rule { OnOk result ((K : Knowledge) → Knows self.old K
+            → expected_of plan.new.planned ≡ input_rule (catalog_of self.old) (site_of self.old) K input.now) }
+        ensures ready { OnOk result (IsReady self.new input.now plan.new) }
+        ensures follows { OnOk result ((K : Knowledge) → Knows self.old K
+            → IfSome plan.new.planned.rec (CanFollow (catalog_of self.old) (site_of self.old) K)) }
+        ensures sizes { OnOk result (IfSome plan.new.planned.rec (IsRecordAmong (catalog_of self.old).sites)) }
+        ensures short { OnOk result (IsShortOutcome plan.new.planned.outcome) }
+        ensures sent { OnOk result
+            (All (λ s. IsSizedPacket (catalog_of self.old).sites s.1) plan.new.planned.sends) }
         ensures free { OnErr result (TakesMemory true (Event.Given input.now)) }
         ensures rests { input.now ≡ Given.Tick → self.new ≡ self.old }
         ensures standing { IsStanding self.old }
@@ -84,45 +87,35 @@ impl Site {
         ensures site { site_of self.new ≡ site_of self.old }
         ensures catalog { catalog_of self.new ≡ catalog_of self.old }
     {
-        let planned = plan_input(&self.tables, input)?;
-        let made = make_ready(&mut self.tables, &planned.rec)?;
-        let asked = ready_answer(&mut self.tables, input, &planned.outcome)?;
-        Ok(Plan {
-            planned,
-            made,
-            asked,
-        })
+        plan.planned = plan_input(&self.tables, input)?;
+        plan.made = make_ready(&mut self.tables, &plan.planned.rec)?;
+        plan.asked = ready_answer(&mut self.tables, input, &plan.planned.outcome)?;
+        Ok(())
     }
 
-    /// Keeps what the plan's record tells, and takes in its input, without taking memory.
-    pub fn apply(&mut self, input: &Input, plan: Plan) -> (Outcome, Sends)
+    /// Keeps what the plan's record tells, and takes in its input, without taking memory. The outcome and the packets
+    /// stay in the plan.
+    pub fn apply(&mut self, input: &Input, plan: &mut Plan)
         requires rule { (K : Knowledge) × Knows self.old K
-            × (expected_of plan.planned ≡ input_rule (catalog_of self.old) (site_of self.old) K input.now) }
-        requires ready { IsReady self.old input.now plan }
-        requires sizes { IfSome plan.planned.rec (IsRecordAmong (catalog_of self.old).sites) }
+            × (expected_of plan.old.planned ≡ input_rule (catalog_of self.old) (site_of self.old) K input.now) }
+        requires ready { IsReady self.old input.now plan.old }
+        requires sizes { IfSome plan.old.planned.rec (IsRecordAmong (catalog_of self.old).sites) }
         ensures knows { (K : Knowledge) → Knows self.old K
-            → expected_of plan.planned ≡ input_rule (catalog_of self.old) (site_of self.old) K input.now
+            → expected_of plan.old.planned ≡ input_rule (catalog_of self.old) (site_of self.old) K input.now
             → Knows self.new (after (catalog_of self.old) (site_of self.old) K (Event.Given input.now)
-            plan.planned.outcome plan.planned.rec) }
+            plan.old.planned.outcome plan.old.planned.rec) }
         ensures tick { input.now ≡ Given.Tick → self.new ≡ self.old }
-        ensures outcome { result.0 ≡ plan.planned.outcome }
-        ensures sends { result.1 ≡ plan.planned.sends }
+        ensures outcome { plan.new.planned.outcome ≡ plan.old.planned.outcome }
+        ensures sends { plan.new.planned.sends ≡ plan.old.planned.sends }
         ensures site { site_of self.new ≡ site_of self.old }
         ensures catalog { catalog_of self.new ≡ catalog_of self.old }
     {
-        let Plan {
-            planned: Planned {
-                rec,
-                outcome,
-                sends,
-            },
-            made,
-            asked,
-        } = plan;
+        let rec = mem::replace(&mut plan.planned.rec, MaybeRecord::none());
+        let made = mem::replace(&mut plan.made, MaybeMade::none());
+        let asked = mem::replace(&mut plan.asked, None);
         let begun = number_begun(&rec);
         keep_any(&mut self.tables, rec, made);
-        take_in(&mut self.tables, input, &outcome, asked, begun);
-        (outcome, sends)
+        take_in(&mut self.tables, input, &plan.planned.outcome, asked, begun);
     }
 
     /// The least peer whose next commit can be committed here.

@@ -8,7 +8,7 @@ use Rattle.walter_base.specs.declared.names.SiteId.{SiteId}
 use Rattle.walter_machine.specs.declared.machine.Machine.{Machine}
 use Rattle.walter_machine.specs.declared.ready.Ready.{Ready}
 use Rattle.walter_machine.specs.Machines.{catalog_in, site_in, tables_in, is_up, HasStanding, IsCounted, IsSameSite, Settles}
-use Rattle.walter_machine.specs.Readiness.{IsReadyFor, came_in, rec_in}
+use Rattle.walter_machine.specs.Readiness.{step_in, IsReadyFor, came_in, rec_in}
 use Rattle.walter_machine.specs.States.{IsState}
 use Rattle.walter_machine.specs.Steps.{expected_by}
 use Rattle.walter_machine.proofs.Answers.{expects, rests}
@@ -72,14 +72,14 @@ module _ (catalog : Catalog) (i : SiteId) (site : Option Tables) (S : Standing) 
   -- its record is stable, or it has none
   pub comes_stable : breaks fate (rec_in ready) ≡ false → came ≡ came_in ready → came ≡ comes_to catalog i S event None fate
   comes_stable whole comes =
-      comes ∙ (sym (stable_by fate event (expected_by ready.step) whole) ∙ ap (came_by fate event None) is.rule)
+      comes ∙ (sym (stable_by fate event (expected_by (step_in ready)) whole) ∙ ap (came_by fate event None) is.rule)
 
   -- it is in flight
   pub comes_broken : breaks fate (rec_in ready) ≡ true
       → IfSome (rec_in ready) (λ rec. came ≡ record (only (failure event rec)) { flight = Some rec })
       → came ≡ comes_to catalog i S event None fate
   comes_broken falls comes =
-      broken_by fate event (expected_by ready.step) came falls comes ∙ ap (came_by fate event None) is.rule
+      broken_by fate event (expected_by (step_in ready)) came falls comes ∙ ap (came_by fate event None) is.rule
 
 -- with what was found
 pub kept_too : (fate : Fate) (event : Event) (kept : Option Record) (x : Expected)

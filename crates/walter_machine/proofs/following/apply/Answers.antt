@@ -1,10 +1,5 @@
-use Rattle.std.proofs.Common.{◌≡◌, ◌∙◌, Some, sym, subst, ap}
-use Rattle.std.specs.Prelude.{IfSome}
-use Rattle.walter_machine.specs.Steps.{IsKnownBy, IsPlan}
+use Rattle.std.proofs.Common.{◌≡◌, ◌∙◌, Some, sym, ap}
 use Rattle.walter_machine.proofs.Behind.{applied_knows, applied_of}
-use Rattle.walter_rules.specs.Learning.{after}
-use Rattle.walter_site.specs.declared.plan.Plan.{Plan}
-use Rattle.walter_tables.specs.Sites.{site_of, catalog_of}
 use Rattle.walter_rules.specs.declared.event.Event.TheVariants.{Given}
 use Rattle.walter_rules.specs.declared.event.Input.TheVariants.{Tick}
 use Rattle.walter_machine.proofs.following.apply.Goals as goal
@@ -13,7 +8,7 @@ pub returns-clause-knows : goal.returns-clause-knows
 returns-clause-knows c = λ S is.
     let site = c.args.site.now in
     let event = c.args.event.now in
-    applied_knows site event S c.args.plan c.in-Some.site _ c.in-Given.input c.in-Some.is c.in-Given.is c.apply.ensures.knows is
+    applied_knows site event S c.args.plan.now c.in-Some.site _ c.in-Given.input c.in-Some.is c.in-Given.is c.apply.ensures.knows is
 
 pub returns-clause-of : goal.returns-clause-of
 returns-clause-of c = λ catalog i of.

@@ -1,11 +1,10 @@
 use Rattle.std.proofs.Common.{Some, refl, sym}
-use Rattle.std.specs.Prelude.{IfOk}
+use Rattle.std.specs.Prelude.{OnOk}
 use Rattle.walter_base.specs.declared.catalog.Catalog.{Catalog}
 use Rattle.walter_base.specs.declared.names.SiteId.{SiteId}
-use Rattle.walter_machine.specs.declared.ready.Ready.{Ready}
 use Rattle.walter_machine.specs.Readiness.{IsReadyFor}
 use Rattle.walter_machine.proofs.Answers.{gone_ready}
-use Rattle.walter_machine.proofs.Planned.{up_owing, at_site, if_ok}
+use Rattle.walter_machine.proofs.Planned.{up_owing, at_site, on_ok}
 use Rattle.walter_rules.specs.declared.event.Event.TheVariants.{Given}
 use Rattle.walter_rules.specs.Knowledge.{fresh}
 use Rattle.walter_tables.specs.Sites.{site_of, catalog_of}
@@ -15,7 +14,7 @@ pub returns-in-Some-clause-ready : goal.returns-in-Some-clause-ready
 returns-in-Some-clause-ready c = λ S up owes.
     let t = c.args.site.now in
     gone_ready (catalog_of t) (site_of t) (Some t) S c.args.input.now c.args.owed c.in-Some.tid up.up owes
-    (sym c.in-Some.ensures) c.without_record.result c.without_record.ensures.step c.without_record.ensures.frames
+    (sym c.in-Some.ensures) c.make_answer.new.ready c.make_answer.ensures.step c.make_answer.ensures.frames
 
 pub returns-in-Some-clause-anyway : goal.returns-in-Some-clause-anyway
 returns-in-Some-clause-anyway c = λ gone owes.
@@ -23,15 +22,15 @@ returns-in-Some-clause-anyway c = λ gone owes.
     record {
       S = up_owing fresh gone;
       ready_for = gone_ready (catalog_of t) (site_of t) (Some t) (up_owing fresh gone) c.args.input.now c.args.owed
-          c.in-Some.tid refl owes (sym c.in-Some.ensures) c.without_record.result c.without_record.ensures.step
-          c.without_record.ensures.frames;
+          c.in-Some.tid refl owes (sym c.in-Some.ensures) c.make_answer.new.ready c.make_answer.ensures.step
+          c.make_answer.ensures.frames;
     }
 
 pub returns-in-None-clause-ready : goal.returns-in-None-clause-ready
 returns-in-None-clause-ready c = λ S up owes.
     let t = c.args.site.now in
     let tidied = c.tidy_at.ensures in
-    at_site (λ (x : Catalog) (k : SiteId). IfOk c.plan.result (IsReadyFor x k (Some c.plan.new.site) S (Given c.args.input.now)))
+    at_site (λ (x : Catalog) (k : SiteId). OnOk c.plan.result (IsReadyFor x k (Some c.plan.new.site) S (Given c.args.input.now) c.plan.new.ready))
     c.tidy_at.new.site (catalog_of t) (site_of t) (tidied.site, tidied.catalog)
     (c.plan.ensures.ready S c.args.owed (tidied.state S up) owes (sym c.in-None.ensures))
 
@@ -41,7 +40,7 @@ returns-in-None-clause-anyway c = λ gone owes.
     let known = c.plan.ensures.standing in
     let S = up_owing known.0 gone in
     let tidied = c.tidy_at.ensures in
-    if_ok c.plan.result _ _ (λ (r : Ready) ready. record { S = S; ready_for = ready })
-    (at_site (λ (x : Catalog) (k : SiteId). IfOk c.plan.result (IsReadyFor x k (Some c.plan.new.site) S (Given c.args.input.now)))
+    on_ok c.plan.result _ _ (λ ready. record { S = S; ready_for = ready })
+    (at_site (λ (x : Catalog) (k : SiteId). OnOk c.plan.result (IsReadyFor x k (Some c.plan.new.site) S (Given c.args.input.now) c.plan.new.ready))
     c.tidy_at.new.site (catalog_of t) (site_of t) (tidied.site, tidied.catalog)
     (c.plan.ensures.ready S c.args.owed (record { up = refl; knows = known.1; settled = refl }) owes (sym c.in-None.ensures)))

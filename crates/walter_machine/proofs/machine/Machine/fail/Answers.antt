@@ -3,7 +3,9 @@ use Rattle.std.specs.Prelude.{IfSome, is_some}
 use Rattle.walter_base.specs.declared.message.Record.{Record}
 use Rattle.walter_base.specs.Sizes.{CanBeRecorded}
 use Rattle.walter_machine.specs.States.{IsOf}
-use Rattle.walter_machine.specs.Steps.{record_of}
+use Rattle.walter_machine.specs.declared.ready.Kind.{Kind}
+use Rattle.walter_machine.specs.Readiness.{step_in}
+use Rattle.walter_machine.specs.Steps.{record_of, step_by}
 use Rattle.walter_tables.specs.declared.tables.Tables.{Tables}
 use Rattle.walter_machine.specs.Comings.{IsFall}
 use Rattle.walter_machine.proofs.Standing.{fail_comes, failed_standing_by, fault_made, lost_none, next_recorded, room_of}
@@ -32,8 +34,9 @@ invariant_of-self-clause-of c =
 pub invariant_of-self-clause-sized : goal.invariant_of-self-clause-sized
 invariant_of-self-clause-sized c =
     let m = c.args.self.now in
-    subst (λ (f : Option Record). IfSome f CanBeRecorded) (sym (c.place.ensures.rec ∙ sym c.rec_of.ensures))
-    (next_recorded m.catalog m.id c.requires.anyway.S (record_of c.args.ready.step) c.requires.anyway.ready_for.next)
+    subst (λ (f : Option Record). IfSome f CanBeRecorded) (sym (c.place.ensures.rec ∙ sym c.rec_of.ensures
+    ∙ ap (λ (k : Kind). record_of (step_by k c.args.ready.now.plan)) c.replace-kind.ensures.value))
+    (next_recorded m.catalog m.id c.requires.anyway.S (record_of (step_in c.args.ready.now)) c.requires.anyway.ready_for.next)
 
 pub invariant_of-self-clause-roomy : goal.invariant_of-self-clause-roomy
 invariant_of-self-clause-roomy c = λ up. absurd (let no = ap is_some c.lose.ensures.down in cc)
@@ -41,18 +44,19 @@ invariant_of-self-clause-roomy c = λ up. absurd (let no = ap is_some c.lose.ens
 pub returns-clause-comes : goal.returns-clause-comes
 returns-clause-comes c = λ layout S ready fits.
     let m = c.args.self.now in
-    fail_comes m.catalog layout m.id m.site S c.args.event.now c.args.ready c.in-Some.failed.now _
-    (sym c.args.ready.copy ∙ c.in-Some.ensures.some)
-    (fault_made c.only.result c.failure-outcome.result c.args.ready.rec c.args.event.now c.in-Some.failed.now c.only.ensures
+    fail_comes m.catalog layout m.id m.site S c.args.event.now c.args.ready.now c.in-Some.failed.now _
+    (sym c.args.ready.now.copy ∙ sym c.replace-rec.ensures.value ∙ c.in-Some.ensures.some)
+    (fault_made c.only.result c.failure-outcome.result c.replace-rec.result c.args.event.now c.in-Some.failed.now c.only.ensures
     c.failure-outcome.ensures c.in-Some.ensures.some) ready fits
 
 pub returns-clause-stands : goal.returns-clause-stands
 returns-clause-stands c = λ S has counted ready.
     let m = c.args.self.now in
-    failed_standing_by m _ S c.args.event.now c.args.ready c.in-Some.failed.now _ c.failure-outcome.result
-    (sym c.args.ready.copy ∙ c.in-Some.ensures.some)
-    (fault_made c.only.result c.failure-outcome.result c.args.ready.rec c.args.event.now c.in-Some.failed.now c.only.ensures
+    failed_standing_by m _ S c.args.event.now c.args.ready.now c.in-Some.failed.now _ c.failure-outcome.result
+    (sym c.args.ready.now.copy ∙ sym c.replace-rec.ensures.value ∙ c.in-Some.ensures.some)
+    (fault_made c.only.result c.failure-outcome.result c.replace-rec.result c.args.event.now c.in-Some.failed.now c.only.ensures
     c.failure-outcome.ensures c.in-Some.ensures.some)
     has counted ready (room_of m c.requires.room).unlost m.of c.failure-outcome.ensures
     c.lose.ensures.lost c.lose.ensures.none refl refl c.lose.ensures.down
-    (c.place.ensures.rec ∙ sym c.rec_of.ensures) refl refl
+    (c.place.ensures.rec ∙ sym c.rec_of.ensures
+    ∙ ap (λ (k : Kind). record_of (step_by k c.args.ready.now.plan)) c.replace-kind.ensures.value) refl refl

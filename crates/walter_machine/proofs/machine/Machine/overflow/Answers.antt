@@ -1,6 +1,7 @@
 use Rattle.std.proofs.Common.{◌∙◌, ap, sym, subst, refl}
 use Rattle.walter_machine.proofs.Standings.{overflow_filled}
 use Rattle.walter_machine.proofs.Standing.{overflow_comes, filled_standing}
+use Rattle.walter_machine.specs.Readiness.{step_in}
 use Rattle.walter_rules.specs.declared.entry.Came.{Came}
 use Rattle.walter_rules.specs.Trails.{Comes, only}
 use Rattle.walter_machine.proofs.machine.Machine.overflow.Goals as goal
@@ -9,11 +10,11 @@ pub returns-clause-comes : goal.returns-clause-comes
 returns-clause-comes c = λ layout S ready much.
     let m = c.args.self.now in
     subst (λ (x : Came). Comes m.catalog layout m.id S c.args.event.now x) (sym (c.only.ensures ∙ ap only c.fullness.ensures))
-    (overflow_comes m.catalog layout m.id m.site S c.args.event.now c.args.ready c.args.need c.args.left ready c.requires.flies much)
+    (overflow_comes m.catalog layout m.id m.site S c.args.event.now c.args.ready.now c.args.need c.args.left ready c.requires.flies much)
 
 pub returns-clause-stands : goal.returns-clause-stands
 returns-clause-stands c = λ S has ready.
     let m = c.args.self.now in
     filled_standing m _ S c.args.event.now c.only.result c.args.need c.args.left (c.only.ensures ∙ ap only c.fullness.ensures) has
-    (overflow_filled m.catalog m.id m.site S c.args.event.now c.args.ready.step c.args.need c.args.left has.state ready.step c.requires.flies has.told)
+    (overflow_filled m.catalog m.id m.site S c.args.event.now (step_in c.args.ready.now) c.args.need c.args.left has.state ready.step c.requires.flies has.told)
     refl refl refl c.none.ensures refl refl refl

@@ -8,25 +8,25 @@ use Rattle.walter_tables.specs.Sites.{site_of, catalog_of}
 use Rattle.walter_site.proofs.Plannings.{tick_wrote, plan_follows, plan_recorded, plan_sent, plan_short, plan_wants_record, plan_wants_room, plan_fits, on_err}
 use Rattle.walter_site.proofs.site.Site.plan.Goals as goal
 
-pub returns-in_err-made-clause-free : goal.returns-in_err-made-clause-free
-returns-in_err-made-clause-free c =
+pub returns-in_err-plan-2-clause-free : goal.returns-in_err-plan-2-clause-free
+returns-in_err-plan-2-clause-free c =
     let t = c.self.inside.tables in
     let K = c.self.invariant.0 in
     let S = c.self.invariant.1 in
     let input = c.args.input.now in
-    on_err (TakesMemory true (Given input)) c.from_residual-in_err-made.result
-    (plan_wants_record t K S input c.in_ok-planned.planned (c.in_ok-planned.ensures.rule K S.stands)
-    c.in_err-made.ensures.free)
+    on_err (TakesMemory true (Given input)) c.from_residual-in_err-plan-2.result
+    (plan_wants_record t K S input c.in_ok-plan.field-0 (c.in_ok-plan.ensures.rule K S.stands)
+    c.in_err-plan-2.ensures.free)
 
-pub returns-in_err-asked-clause-free : goal.returns-in_err-asked-clause-free
-returns-in_err-asked-clause-free c =
+pub returns-in_err-plan-3-clause-free : goal.returns-in_err-plan-3-clause-free
+returns-in_err-plan-3-clause-free c =
     let t = c.self.inside.tables in
     let K = c.self.invariant.0 in
     let S = c.self.invariant.1 in
     let input = c.args.input.now in
-    on_err (TakesMemory true (Given input)) c.from_residual-in_err-asked.result
-    (plan_wants_room t K S input c.in_ok-planned.planned (c.in_ok-planned.ensures.rule K S.stands)
-    c.in_err-asked.ensures.free)
+    on_err (TakesMemory true (Given input)) c.from_residual-in_err-plan-3.result
+    (plan_wants_room t K S input c.in_ok-plan.field-0 (c.in_ok-plan.ensures.rule K S.stands)
+    c.in_err-plan-3.ensures.free)
 
 pub ready_answer-requires : goal.ready_answer-requires
 ready_answer-requires c =
@@ -36,45 +36,45 @@ ready_answer-requires c =
     let made = c.make_ready.ensures in
     record {
       fits = plan_fits t c.make_ready.new.tables K (made.stands K stands) made.site made.catalog c.args.input.now
-          c.in_ok-planned.planned (c.in_ok-planned.ensures.rule K stands);
+          c.in_ok-plan.field-0 (c.in_ok-plan.ensures.rule K stands);
     }
 
 pub returns-clause-rests : goal.returns-clause-rests
 returns-clause-rests c = λ tick.
     let t = c.self.inside.tables in
-    let none = tick_wrote t c.self.invariant.0 c.args.input.now c.in_ok-planned.planned
-    (c.in_ok-planned.ensures.rule c.self.invariant.0 c.self.invariant.1.stands) tick in
+    let none = tick_wrote t c.self.invariant.0 c.args.input.now c.in_ok-plan.field-0
+    (c.in_ok-plan.ensures.rule c.self.invariant.0 c.self.invariant.1.stands) tick in
     c.ready_answer.ensures.rests tick ∙ c.make_ready.ensures.none none ∙ c.self.view_is
 
 pub returns-clause-follows : goal.returns-clause-follows
 returns-clause-follows c =
-    let p = c.in_ok-planned.planned in
+    let p = c.in_ok-plan.field-0 in
     subst (λ t. (K : Knowledge) → Knows t K → IfSome p.rec (CanFollow (catalog_of t) (site_of t) K)) c.self.view_is
-    (λ K S. plan_follows c.self.inside.tables K S c.args.input.now p (c.in_ok-planned.ensures.rule K S.stands))
+    (λ K S. plan_follows c.self.inside.tables K S c.args.input.now p (c.in_ok-plan.ensures.rule K S.stands))
 
 pub returns-clause-sizes : goal.returns-clause-sizes
 returns-clause-sizes c =
-    let p = c.in_ok-planned.planned in
+    let p = c.in_ok-plan.field-0 in
     let input = c.args.input.now in
     let K = c.self.invariant.0 in
     let S = c.self.invariant.1 in
     let sized = subst (λ t. IsSizedInput (catalog_of t).sites input) (sym c.self.view_is) c.requires.sized in
     subst (λ t. IfSome p.rec (IsRecordAmong (catalog_of t).sites)) c.self.view_is
-    (plan_recorded c.self.inside.tables K S input p (c.in_ok-planned.ensures.rule K S.stands) sized)
+    (plan_recorded c.self.inside.tables K S input p (c.in_ok-plan.ensures.rule K S.stands) sized)
 
 pub returns-clause-short : goal.returns-clause-short
 returns-clause-short c =
     let K = c.self.invariant.0 in
     let S = c.self.invariant.1 in
-    plan_short c.self.inside.tables K S c.args.input.now c.in_ok-planned.planned
-    (c.in_ok-planned.ensures.rule K S.stands)
+    plan_short c.self.inside.tables K S c.args.input.now c.in_ok-plan.field-0
+    (c.in_ok-plan.ensures.rule K S.stands)
 
 pub returns-clause-sent : goal.returns-clause-sent
 returns-clause-sent c =
-    let p = c.in_ok-planned.planned in
+    let p = c.in_ok-plan.field-0 in
     let input = c.args.input.now in
     let K = c.self.invariant.0 in
     let S = c.self.invariant.1 in
     let sized = subst (λ t. IsSizedInput (catalog_of t).sites input) (sym c.self.view_is) c.requires.sized in
     subst (λ t. All (λ s. IsSizedPacket (catalog_of t).sites s.1) p.sends) c.self.view_is
-    (plan_sent c.self.inside.tables K S input p (c.in_ok-planned.ensures.rule K S.stands) sized)
+    (plan_sent c.self.inside.tables K S input p (c.in_ok-plan.ensures.rule K S.stands) sized)
