@@ -9,10 +9,10 @@ use Rattle.walter_base.specs.declared.message.Record.{Record}
 use Rattle.walter_base.specs.declared.names.SiteId.{SiteId}
 use Rattle.walter_disk.specs.declared.disk.Disk.{Ghosts}
 use Rattle.walter_engine.specs.declared.engine.Engine.{Engine}
-use Rattle.walter_engine.specs.declared.store.Store.{Store}
-use Rattle.walter_engine.specs.declared.store.Store.TheVariants.{Open, Closed}
+use Rattle.walter_checkpoint.specs.declared.book.Book.{Book}
+use Rattle.walter_engine.proofs.Resting.{has_either}
 use Rattle.walter_engine.specs.Engines.{catalog_in, site_in, layout_in, disk_in, OfDisk, OfDisks, IsSameEngine, Stands}
-use Rattle.walter_engine.specs.Stores.{disk_under, IsStored}
+use Rattle.walter_engine.specs.Stores.{IsStored}
 use Rattle.walter_machine.specs.Comings.{IsSized, is_faulty, RisesIf, IsFaulty}
 use Rattle.walter_machine.specs.States.{AreTold, CanBeNext, IsState}
 use Rattle.walter_outbox.specs.Lanes.{carried_by, met_to, HavePut, HavePutMore, IsPutWhereFree}
@@ -76,12 +76,12 @@ module _ (S : Standing) (carried : SiteId → ℕ) where
   left_carrying (one_area capacity) = refl
   left_carrying (two_areas capacity sites) = refl
 
-  store_carrying : {D : Type 0} {g : Ghosts D} (layout : Layout) (store : Option (Store D g)) → IsStored layout S store
-      → IsStored layout (carrying carried S) store
-  store_carrying layout None is = is
-  store_carrying layout (Some (Open book)) is =
+  stored_carrying : {D : Type 0} {g : Ghosts D} (layout : Layout) (book : Option (Book D g)) (bare : Option D)
+      → IsStored layout S book bare → IsStored layout (carrying carried S) book bare
+  stored_carrying layout None None is = is
+  stored_carrying layout (Some book) bare is =
       record { laid = is.laid; stands = is.stands; left = is.left ∙ sym (left_carrying layout) }
-  store_carrying layout (Some (Closed disk)) is = record { told = is.told; begun = is.begun; images = is.images }
+  stored_carrying layout None (Some disk) is = record { told = is.told; begun = is.begun; images = is.images }
 
   stands_carrying : {D : Type 0} {g : Ghosts D} (engine : Engine D g) → Stands engine S → Stands engine (carrying carried S)
   stands_carrying engine stands = record {
@@ -93,17 +93,13 @@ module _ (S : Standing) (carried : SiteId → ℕ) where
       owed = m.owed;
     };
     spelled = let s = stands.spelled in record { records = s.records; flight = s.flight };
-    store = store_carrying (layout_in engine) engine.store stands.store;
+    stored = stored_carrying (layout_in engine) engine.book engine.disk stands.stored;
   }
 
 module _ {D : Type 0} {g : Ghosts D} where
-  store_has : (store : Option (Store D g)) → is_some store ≡ true → is_some (disk_under store) ≡ true
-  store_has None there = absurd cc
-  store_has (Some store) there = refl
-
   -- an engine has a disk
   pub has_disk : (engine : Engine D g) → is_some (disk_in engine) ≡ true
-  has_disk engine = store_has engine.store engine.there
+  has_disk engine = has_either g engine.book engine.disk _ engine.«open» engine.bare
 
   faults_more : (old new : Engine D g) (n : ℕ) (b : Bool) → OfDisk old (λ d. n ≤ (g.known d).faults) → OfDisks old new (λ x y. RisesIf b (g.known x).faults (g.known y).faults)
       → OfDisk new (λ d. n + (if b then 1 else 0) ≤ (g.known d).faults)

@@ -10,8 +10,7 @@ use Rattle.walter_engine.specs.Contents.{HasBodies, MayHaveRecords}
 use Rattle.walter_engine.specs.Engines.{catalog_in, site_in, layout_in, disk_in, IsSameEngine, Stands}
 use Rattle.walter_engine.specs.Stores.{disk_under, IsStored}
 use Rattle.walter_engine.specs.declared.engine.Engine.{Engine}
-use Rattle.walter_engine.specs.declared.store.Store.{Store}
-use Rattle.walter_engine.specs.declared.store.Store.TheVariants.{Open, Closed}
+use Rattle.walter_checkpoint.specs.declared.book.Book.{Book}
 use Rattle.walter_record.specs.Spelling.{record_spelled}
 use Rattle.walter_lane.specs.Lanes.{Sending}
 use Rattle.walter_outbox.specs.Lanes.{HavePut, out_rings, mets, met_to}
@@ -69,14 +68,14 @@ module _ {D : Type 0} (g : Ghosts D) where
 
 module _ {D : Type 0} {g : Ghosts D} where
   -- what a crash may leave of the disk of a site that stands so
-  leaves_stored : (layout : Layout) (S : Standing) (store : Option (Store D g)) → IsStored layout S store
-      → IfSome (disk_under store) (λ disk. (image : List ℕ) → g.may_leave disk image → MayHaveRecords layout S.records S.flight image)
-  leaves_stored layout S None is = tt
-  leaves_stored layout S (Some (Open book)) is = λ image left.
+  leaves_stored : (layout : Layout) (S : Standing) (book : Option (Book D g)) (bare : Option D) → IsStored layout S book bare
+      → IfSome (disk_under book bare) (λ disk. (image : List ℕ) → g.may_leave disk image → MayHaveRecords layout S.records S.flight image)
+  leaves_stored layout S None None is = tt
+  leaves_stored layout S (Some book) bare is = λ image left.
       may_have layout S.records S.flight image
       (subst (λ (l : Layout). HasBodies l image (map record_spelled S.records)) is.laid
       (leaves_bodies g book (map record_spelled S.records) is.stands image left))
-  leaves_stored layout S (Some (Closed disk)) is = is.images
+  leaves_stored layout S None (Some disk) is = is.images
 
   -- a site with its trail and its lanes is sound
   pub sound_of : (room : ℕ) (n : NodeParts D g) → IsWhole g n → IsSound g (seen room n)
@@ -88,7 +87,7 @@ module _ {D : Type 0} {g : Ghosts D} where
     put = whole.is.put;
     faults = whole.is.faults;
     right = λ told. (whole.known told).right;
-    leaves = λ told. leaves_stored _ _ n.engine.store (whole.known told).stands.store;
+    leaves = λ told. leaves_stored _ _ n.engine.book n.engine.disk (whole.known told).stands.stored;
   }
 
   -- the same but for what its lanes know

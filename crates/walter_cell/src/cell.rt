@@ -101,18 +101,13 @@ impl<D: Disk + Drop, S: Source + Drop, K: Sink + Drop> Cell<D, S, K> {
     pub fn into_parts(self) -> (D, Trail, Remains<S, K>)
         ensures disk { Some result.0 ≡ self.node.disk }
         ensures trail { result.1 ≡ self.node.trail }
-        ensures lines { result.2.lines.items ≡ self.lines }
+        ensures lines { result.2 ≡ self.lines }
         ensures sound { IsSound D.Disk self.node }
         ensures cell { IsCell self }
     {
         let Cell { node, ins, lines } = self;
         let (disk, trail, machine) = node.into_parts();
-        let remains = Remains {
-            lines,
-            machine,
-            ins,
-        };
-        (disk, trail, remains)
+        (disk, trail, Remains::new(lines, machine, ins))
     }
 
     /// Does to the disk what `Disk::arm` does.

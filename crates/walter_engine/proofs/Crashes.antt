@@ -1,6 +1,6 @@
 -- What a crash within an event leaves.
 use Rattle.std.proofs.Common.{◌≡◌, ℕ, List, [], ◌∷◌, ◌++◌, ◌⊎◌, map, false, Option, Some, None, sym, subst, inl, inr, arith}
-use Rattle.std.specs.Prelude.{IfSome}
+use Rattle.std.specs.Prelude.{IfSome, is_some}
 use Rattle.std.proofs.lemmas.List.{map-append}
 use Rattle.walter_base.specs.declared.catalog.Catalog.{Catalog}
 use Rattle.walter_base.specs.declared.message.Record.{Record}
@@ -9,9 +9,7 @@ use Rattle.walter_disk.proofs.Moments.{weaker}
 use Rattle.walter_disk.specs.declared.disk.Disk.{Ghosts}
 use Rattle.walter_disk.specs.Images.{LeavesOnly}
 use Rattle.walter_engine.specs.Contents.{HasBodies, MayHaveRecords, HasOneMore, MayHaveNext}
-use Rattle.walter_engine.specs.declared.store.Store.{Store}
-use Rattle.walter_engine.specs.declared.store.Store.TheVariants.{Open, Closed}
-use Rattle.walter_engine.specs.Stores.{IsKept, IsStored, disk_under, is_open_under, layout_of}
+use Rattle.walter_engine.specs.Stores.{IsKept, IsStored, disk_under, layout_of}
 use Rattle.walter_engine.specs.Writings.{IsSameButRoom}
 use Rattle.walter_engine.proofs.Resting.{OnlyNow, may_have, leaves_bodies, before_laid}
 use Rattle.walter_checkpoint.specs.Books.{disk_of, shape_of, IsLaidBeforeOrBehind, StandsFor}
@@ -65,13 +63,13 @@ module _ {D : Type 0} {g : Ghosts D} where
 
   -- or the bare disk
   pub disk_next : OnlyNow g → (catalog : Catalog) (layout : Layout) (i : SiteId) (S : Standing) (event : Event)
-      (kept : Option Record) (store : Option (Store D g)) → IsStored {g = g} layout S store
-      → is_open_under store ≡ false
-      → IfSome (disk_under store) (λ before. IfSome (disk_under store) (λ now.
+      (kept : Option Record) (book : Option (Book D g)) (bare : Option D) → IsStored {g = g} layout S book bare
+      → is_some book ≡ false
+      → IfSome (disk_under book bare) (λ before. IfSome (disk_under book bare) (λ now.
       LeavesOnly g.moment g.left_since before now (MayHaveNext catalog layout i S event kept)))
-  disk_next only_now catalog layout i S event kept None stored closed = tt
-  disk_next only_now catalog layout i S event kept (Some (Open book)) stored closed = absurd (cc)
-  disk_next only_now catalog layout i S event kept (Some (Closed disk)) stored closed = record {
+  disk_next only_now catalog layout i S event kept None None stored closed = tt
+  disk_next only_now catalog layout i S event kept (Some book) bare stored closed = absurd (cc)
+  disk_next only_now catalog layout i S event kept None (Some disk) stored closed = record {
     later = omega arith;
     each = λ image left. inl (stored.images image (only_now disk image left));
     before = λ t image le left. inl left;

@@ -1,5 +1,5 @@
 -- A restart from the disk of a site that is down.
-use Rattle.std.proofs.Common.{◌≡◌, ℕ, ◌+◌, ◌<◌, ◌≢◌, List, [], ◌∷◌, ◌++◌, map, length, false, if◌then◌else◌, Option, Some, None, refl, ap, sym, ◌∙◌, subst, inl, inr, ◌⊎◌, ⊎_elim, arith}
+use Rattle.std.proofs.Common.{◌≡◌, ℕ, ◌+◌, ◌<◌, ◌≢◌, List, [], ◌∷◌, ◌++◌, map, length, false, Option, Some, None, refl, ap, sym, ◌∙◌, subst, inl, inr, ◌⊎◌, ⊎_elim, arith}
 use Rattle.std.specs.Prelude.{IfSome, IsSome, is_some}
 use Rattle.std.proofs.lemmas.List.{length-append, length-map}
 use Rattle.walter_base.specs.declared.catalog.Catalog.{Catalog}
@@ -12,13 +12,12 @@ use Rattle.walter_disk.specs.Images.{IsImage, LeavesOnly}
 use Rattle.walter_engine.specs.declared.answers.RefusedRestart.{RefusedRestart}
 use Rattle.walter_engine.specs.declared.answers.RefusedRestart.TheVariants as refused
 use Rattle.walter_engine.specs.declared.engine.Engine.{Engine}
-use Rattle.walter_engine.specs.declared.store.Store.TheVariants.{Open, Closed}
 use Rattle.walter_engine.specs.Contents.{AreSpelled, HasBodies, MayHaveRecords, MayHaveNext}
 use Rattle.walter_engine.specs.Effects.{HasCome, IsRefusedOver, IsRefusedFor}
 use Rattle.walter_engine.specs.Engines.{Stands, layout_in}
 use Rattle.walter_engine.specs.Raises.{LiesIn, Raises, calls_before, unloaded_by}
 use Rattle.walter_engine.specs.Restarts.{ComesOf, RestartsOver, left_over}
-use Rattle.walter_engine.specs.Stores.{IsOnDisk, IsStored, IsLeft, layout_by, layout_of}
+use Rattle.walter_engine.specs.Stores.{IsOnDisk, IsStored, IsLeft, book_if, disk_if, layout_by, layout_of}
 use Rattle.walter_engine.proofs.Crashes.{settled_next}
 use Rattle.walter_engine.proofs.Resting.{SizeIs, size_told, reads_bodies}
 use Rattle.walter_engine.proofs.Laid.{IsLayoutOf, bodies_content, laid_is, one_layout}
@@ -223,12 +222,14 @@ module _ {D : Type 0} {g : Ghosts D} where
   -- the engine over what was left
   pub stands_left : (engine : Engine D g) (T : Standing) (book : Book D g) (layout : Layout) → layout_in engine ≡ layout
       → IsLeft {g = g} layout engine.machine T book
-      → engine.store ≡ Some (if is_up engine.machine then Open book else Closed (disk_of book)) → Stands engine T
-  stands_left engine T book layout same left is = record {
+      → engine.book ≡ book_if (is_up engine.machine) book → engine.disk ≡ disk_if {g = g} (is_up engine.machine) book
+      → Stands engine T
+  stands_left engine T book layout same left book_is disk_is = record {
     machine = left.machine;
     spelled = left.spelled;
-    store = subst (λ (l : Layout). IsStored {g = g} l T engine.store) (sym same)
-        (subst (λ o. IsStored {g = g} layout T o) (sym is) left.stored);
+    stored = subst (λ (l : Layout). IsStored {g = g} l T engine.book engine.disk) (sym same)
+        (subst (λ o. IsStored {g = g} layout T o engine.disk) (sym book_is)
+        (subst (λ o. IsStored {g = g} layout T (book_if (is_up engine.machine) book) o) (sym disk_is) left.stored));
   }
 
   -- ---- over a book that was loaded
@@ -277,13 +278,13 @@ module _ {D : Type 0} {g : Ghosts D} where
   pub come_raised : (catalog : Catalog) (layout : Layout) (i : SiteId) (S : Standing) (kept : Option Record) (came : Came)
       (why : Option RefusedRestart) (engine : Engine D g) (book : Book D g) → layout_in engine ≡ layout
       → IfSome kept (IsFound S Restart) → Raises {g = g} catalog layout i (settled catalog i kept S) came why engine.machine book
-      → engine.store ≡ Some (if is_up engine.machine then Open book else Closed (disk_of book))
+      → engine.book ≡ book_if (is_up engine.machine) book → engine.disk ≡ disk_if {g = g} (is_up engine.machine) book
       → HasCome catalog layout i S Restart (record came { kept = kept }) why engine
-  come_raised catalog layout i S kept came why engine book same found raises is = record {
+  come_raised catalog layout i S kept came why engine book same found raises book_is disk_is = record {
     found = found;
     comes = ⊎_elim (λ refused. inl refused)
         (λ comes. inr (with_kept catalog layout i (settled catalog i kept S) Restart came kept comes)) raises.comes;
-    stands = stands_left engine (stands_after catalog i (settled catalog i kept S) Restart came) book layout same raises.leaves is;
+    stands = stands_left engine (stands_after catalog i (settled catalog i kept S) Restart came) book layout same raises.leaves book_is disk_is;
     last = raises.last;
     takes_none = λ down restart last.
         let none = raises.takes_none last in

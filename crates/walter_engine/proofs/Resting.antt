@@ -1,6 +1,6 @@
 -- A disk that rests: what each crash leaves of it, with the records of its site.
-use Rattle.std.proofs.Common.{◌≡◌, ℕ, ◌<◌, ◌≤◌, List, [], ◌∷◌, ◌++◌, ◌⊎◌, length, map, Bool, true, false, if◌then◌else◌, Option, Some, None, refl, ap, sym, ◌∙◌, subst, inl, inr, ⊎_elim, arith}
-use Rattle.std.specs.Prelude.{IfSome, IsSome, is_some}
+use Rattle.std.proofs.Common.{◌≡◌, ℕ, ◌<◌, ◌≤◌, List, [], ◌∷◌, ◌++◌, ◌⊎◌, length, map, Bool, true, false, Option, Some, None, refl, ap, sym, ◌∙◌, subst, inl, inr, ⊎_elim, arith}
+use Rattle.std.specs.Prelude.{IfSome, IsSome, is_some, not}
 use Rattle.std.proofs.lemmas.List.{map-append}
 use Rattle.walter_base.specs.declared.message.Record.{Record}
 use Rattle.walter_disk.specs.declared.disk.Disk.{Ghosts}
@@ -17,9 +17,7 @@ use Rattle.walter_record.specs.Spelling.{record_spelled}
 use Rattle.walter_rules.specs.Layouts.{Layout, one_area, two_areas, left_behind}
 use Rattle.walter_rules.specs.Standing.{Standing}
 use Rattle.walter_engine.specs.Contents.{HasBodies, HasRecords, MayHaveRecords}
-use Rattle.walter_engine.specs.declared.store.Store.{Store}
-use Rattle.walter_engine.specs.declared.store.Store.TheVariants.{Open, Closed}
-use Rattle.walter_engine.specs.Stores.{disk_of_store, is_open, layout_by, layout_of, IsOnDisk, IsStored}
+use Rattle.walter_engine.specs.Stores.{book_if, disk_if, disk_under, layout_by, layout_of, IsOnDisk, IsStored}
 
 -- whatever is in flight, the records alone may be there
 pub may_have : (layout : Layout) (records : List Record) (flight : Option Record) (image : List ℕ)
@@ -117,7 +115,7 @@ module _ {D : Type 0} (g : Ghosts D) where
   -- the records lie in the book of a site that is up, or on the disk under it of one that is down
   pub stored : SizeIs → (layout : Layout) (S : Standing) (book : Book D g) (up : Bool) → layout_of book ≡ layout
       → StandsFor book (map record_spelled S.records) → (up ≡ true → left_of book ≡ left_behind layout S)
-      → IsStored {g = g} layout S (Some (if up then Open book else Closed (disk_of book)))
+      → IsStored {g = g} layout S (book_if up book) (disk_if up book)
   stored size_is layout S book true laid stands left = record { laid = laid; stands = stands; left = left refl }
   stored size_is layout S book false laid stands left = on_disk size_is layout S book laid stands
 
@@ -162,11 +160,27 @@ module _ {D : Type 0} (g : Ghosts D) where
         (left_now counts_now (disk_of old) (disk_of new) _ run image left);
   }
 
-  -- a store that isn't open is a disk
-  pub on_closed : (layout : Layout) (S : Standing) (store : Store D g) → is_open store ≡ false
-      → IsStored layout S (Some store) → IsOnDisk g layout S (disk_of_store store)
-  on_closed layout S (Open book) closed is = absurd (cc)
-  on_closed layout S (Closed disk) closed is = is
+  -- where there is no book, there is a disk
+  pub on_bare : (layout : Layout) (S : Standing) (book : Option (Book D g)) (disk : D) → is_some book ≡ false
+      → IsStored layout S book (Some disk) → IsOnDisk g layout S disk
+  on_bare layout S None disk closed is = is
+  on_bare layout S (Some book) disk closed is = absurd (cc)
+
+  pub stored_bare : (layout : Layout) (S : Standing) (book : Option (Book D g)) (disk : D) → is_some book ≡ false
+      → IsOnDisk g layout S disk → IsStored layout S book (Some disk)
+  stored_bare layout S None disk closed is = is
+  stored_bare layout S (Some book) disk closed is = absurd (cc)
+
+  -- there is one or the other
+  pub has_either : (book : Option (Book D g)) (bare : Option D) (up : Bool) → is_some book ≡ up → is_some bare ≡ not up
+      → is_some (disk_under book bare) ≡ true
+  has_either (Some book) bare up booked bared = refl
+  has_either None (Some disk) up booked bared = refl
+  has_either None None up booked bared = absurd (let e = bared ∙ ap not (sym booked) in cc)
+
+  pub disk_bare : (book : Option (Book D g)) (bare : Option D) → is_some book ≡ false → disk_under book bare ≡ bare
+  disk_bare None bare closed = refl
+  disk_bare (Some book) bare closed = absurd (cc)
 
   -- a disk rests on, where it leaves only what it left before
   pub rests_on : SizeIs → CountsNow → (layout : Layout) (S : Standing) (old new : D) → IsOnDisk g layout S old

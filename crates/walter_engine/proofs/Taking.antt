@@ -6,10 +6,9 @@ use Rattle.walter_base.specs.declared.message.Record.{Record}
 use Rattle.walter_base.specs.declared.names.SiteId.{SiteId}
 use Rattle.walter_disk.specs.declared.disk.Disk.{Ghosts}
 use Rattle.walter_engine.specs.declared.engine.Engine.{Engine}
-use Rattle.walter_engine.specs.declared.store.Store.{Store}
-use Rattle.walter_engine.specs.declared.store.Store.TheVariants.{Open, Closed}
 use Rattle.walter_engine.specs.Contents.{AreSpelled, MayHaveRecords}
-use Rattle.walter_engine.specs.Stores.{IsStored, is_open_under}
+use Rattle.walter_engine.specs.Stores.{IsStored}
+use Rattle.walter_checkpoint.specs.declared.book.Book.{Book}
 use Rattle.walter_engine.proofs.Spelled.{spelled_after}
 use Rattle.walter_engine.proofs.Written.{holds_none}
 use Rattle.walter_engine.specs.Effects.{HasCome}
@@ -70,11 +69,11 @@ flight_stays (Full need left) old fits = absurd (cc)
 flight_stays outcome old fits = refl
 
 module _ {D : Type 0} {g : Ghosts D} where
-  stored_as : (layout : Layout) (S T : Standing) (store : Option (Store D g)) → is_open_under store ≡ false
-      → T.records ≡ S.records → T.flight ≡ S.flight → IsStored layout S store → IsStored layout T store
-  stored_as layout S T None closed records flight is = is
-  stored_as layout S T (Some (Open book)) closed records flight is = absurd (cc)
-  stored_as layout S T (Some (Closed disk)) closed records flight is = record {
+  stored_as : (layout : Layout) (S T : Standing) (book : Option (Book D g)) (bare : Option D) → is_some book ≡ false
+      → T.records ≡ S.records → T.flight ≡ S.flight → IsStored layout S book bare → IsStored layout T book bare
+  stored_as layout S T None None closed records flight is = is
+  stored_as layout S T (Some book) bare closed records flight is = absurd (cc)
+  stored_as layout S T None (Some disk) closed records flight is = record {
     told = is.told;
     begun = is.begun;
     images = λ image left.
@@ -85,7 +84,7 @@ module _ {D : Type 0} {g : Ghosts D} where
   -- what comes without a record to a site that is down leaves the records where they are
   pub stands_same : (engine : Engine D g) (catalog : Catalog) (i : SiteId) (S : Standing) (event : Event) (came : Came)
       → HasStanding engine.machine (stands_after catalog i S event came) → AreSpelled (catalog_in engine).sites S
-      → (layout : Layout) → layout_in engine ≡ layout → IsStored layout S engine.store → is_open_under engine.store ≡ false
+      → (layout : Layout) → layout_in engine ≡ layout → IsStored layout S engine.book engine.disk → is_some engine.book ≡ false
       → came.wrote ≡ None → came.flight ≡ None
       → is_full came.outcome ≡ false → Stands engine (stands_after catalog i S event came)
   stands_same engine catalog i S event came standing spelled layout same stored closed wrote flight fits = record {
@@ -93,8 +92,8 @@ module _ {D : Type 0} {g : Ghosts D} where
     spelled = spelled_after (catalog_in engine).sites catalog i S event came spelled
         (holds_none (HasRecordSpelling (catalog_in engine).sites) came.wrote wrote)
         (holds_none (HasRecordSpelling (catalog_in engine).sites) came.flight flight);
-    store = subst (λ (l : Layout). IsStored l (stands_after catalog i S event came) engine.store) (sym same)
-        (stored_as layout S (stands_after catalog i S event came) engine.store closed
+    stored = subst (λ (l : Layout). IsStored l (stands_after catalog i S event came) engine.book engine.disk) (sym same)
+        (stored_as layout S (stands_after catalog i S event came) engine.book engine.disk closed
         (ap (λ (w : Option Record). records_after w S.records) wrote)
         ((λ j. flight_after (flight j) (wrote j) came.outcome S.flight)
         ∙ flight_stays came.outcome S.flight fits)

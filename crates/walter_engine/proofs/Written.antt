@@ -1,5 +1,5 @@
 -- What the write of a record leaves, and what comes of it.
-use Rattle.std.proofs.Common.{◌≡◌, ℕ, ◌-◌, ◌<◌, ◌≤◌, List, [], ◌∷◌, ◌++◌, map, Bool, true, false, Option, Some, None, Result, Err, refl, ap, sym, ◌∙◌, subst, inl, inr, arith, if◌then◌else◌}
+use Rattle.std.proofs.Common.{◌≡◌, ℕ, ◌-◌, ◌<◌, ◌≤◌, List, [], ◌∷◌, ◌++◌, map, Bool, true, false, Option, Some, None, Result, Err, refl, ap, sym, ◌∙◌, subst, inl, inr, arith}
 use Rattle.std.specs.Prelude.{IfSome, IsSome, OnErr, is_some}
 use Rattle.std.proofs.lemmas.Bool.{cases_lt}
 use Rattle.std.proofs.lemmas.List.{map-append}
@@ -15,9 +15,8 @@ use Rattle.walter_checkpoint.specs.declared.book.Book.{Book}
 use Rattle.walter_disk.specs.declared.disk.Disk.{Ghosts}
 use Rattle.walter_disk.specs.Disks.{Fails}
 use Rattle.walter_disk.specs.Images.{LeavesOnly}
-use Rattle.walter_engine.specs.declared.store.Store.TheVariants.{Open, Closed}
 use Rattle.walter_engine.specs.Contents.{AreSpelled, HasBodies}
-use Rattle.walter_engine.specs.Stores.{layout_by, layout_of, IsKept, IsStored, IsLeft}
+use Rattle.walter_engine.specs.Stores.{book_if, disk_if, layout_by, layout_of, IsKept, IsOnDisk, IsStored, IsLeft}
 use Rattle.walter_engine.specs.Writings.{IsSameButRoom, IsSpelling, IsSpellingIfAny, IsOutcomeOf}
 use Rattle.walter_engine.proofs.Bodies.{some_is}
 use Rattle.walter_engine.proofs.Resting.{SizeIs, CountsNow, stored, stored_failed, stored_unpacked}
@@ -299,8 +298,8 @@ module _ {D : Type 0} {g : Ghosts D} (size_is : SizeIs g) (catalog : Catalog) (l
         spelled = spelled_here (subst (λ (w : Option Record). IfSome w Has) (sym wrote) tt)
             (subst (λ (f : Option Record). IfSome f Has) (sym flight) tt);
         stored = subst
-            (λ (o : Option Tables). IsStored {g = g} layout T (Some (if is_some o then Open new else Closed (disk_of new)))) (sym down)
-            (subst (λ (l : Layout). IsStored {g = g} l T (Some (Closed (disk_of new)))) laid
+            (λ (o : Option Tables). IsStored {g = g} layout T (book_if (is_some o) new) (disk_if (is_some o) new)) (sym down)
+            (subst (λ (l : Layout). IsOnDisk g l T (disk_of new)) laid
             (stored_unpacked g size_is counts_now T old new
             (subst (λ (rs : List Record). StandsFor old (map record_spelled rs)) (sym same) stands) fails
             (subst (λ (rs : List Record). LeavesOnly g.moment g.left_since (disk_of old) (disk_of new)
@@ -344,8 +343,8 @@ module _ {D : Type 0} {g : Ghosts D} (size_is : SizeIs g) (catalog : Catalog) (l
       spelled = spelled_here (subst (λ (w : Option Record). IfSome w Has) (sym wrote) tt)
           (subst (λ (f : Option Record). IfSome f Has) (sym flight) has);
       stored = subst
-          (λ (o : Option Tables). IsStored {g = g} layout T (Some (if is_some o then Open new else Closed (disk_of new)))) (sym down)
-          (subst (λ (l : Layout). IsStored {g = g} l T (Some (Closed (disk_of new)))) kept.laid
+          (λ (o : Option Tables). IsStored {g = g} layout T (book_if (is_some o) new) (disk_if (is_some o) new)) (sym down)
+          (subst (λ (l : Layout). IsOnDisk g l T (disk_of new)) kept.laid
           (stored_failed g size_is counts_now S.records rec T mid new kept.stands fails
           (subst (λ (b : List ℕ). LeavesOnly g.moment g.left_since (disk_of mid) (disk_of new)
           (IsLaidBeforeOrBehind mid.live (shape_of mid) (map record_spelled S.records) b)) is run)

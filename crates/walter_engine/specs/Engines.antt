@@ -33,9 +33,9 @@ layout_in engine = layout_for engine.areas engine.capacity (catalog_in engine).s
 abbrev pub shape_in : {D : Type 0} {g : Ghosts D} → Engine D g → Shape
 shape_in engine = shape_by engine.capacity (catalog_in engine).sites
 
--- the disk, bare or under a book
+-- the disk, under a book or bare
 abbrev pub disk_in : {D : Type 0} {g : Ghosts D} → Engine D g → Option D
-disk_in engine = disk_under engine.store
+disk_in engine = disk_under engine.book engine.disk
 
 -- what a site keeps that is up
 abbrev pub tables_in : {D : Type 0} {g : Ghosts D} → Engine D g → Option Tables
@@ -60,7 +60,7 @@ OfDisks old new R = OfDisk old (λ before. OfDisk new (λ after. R before after)
 pub record Stands {D : Type 0} {g : Ghosts D} (engine : Engine D g) (S : Standing) : Type 0 where
   pub machine : HasStanding engine.machine S
   pub spelled : AreSpelled (catalog_in engine).sites S
-  pub store : IsStored (layout_in engine) S engine.store
+  pub stored : IsStored (layout_in engine) S engine.book engine.disk
 
 -- of the same site
 pub record IsOfSameSite {D : Type 0} {g : Ghosts D} (old new : Engine D g) : Type 0 where

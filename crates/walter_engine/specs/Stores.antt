@@ -1,8 +1,6 @@
 -- Where the records of a site lie.
-use Rattle.std.specs.Prelude.{◌≡◌, ◌<◌, ℕ, Bool, true, false, List, map, Option, Some, None, IsSome, if◌then◌else◌}
+use Rattle.std.specs.Prelude.{◌≡◌, ◌<◌, ℕ, Bool, List, map, Option, Some, None, IsSome, if◌then◌else◌}
 use Rattle.walter_disk.specs.declared.disk.Disk.{Ghosts}
-use Rattle.walter_engine.specs.declared.store.Store.{Store}
-use Rattle.walter_engine.specs.declared.store.Store.TheVariants.{Open, Closed}
 use Rattle.walter_engine.specs.Contents.{MayHaveRecords, AreSpelled}
 use Rattle.walter_checkpoint.specs.Areas.{Shape}
 use Rattle.walter_checkpoint.specs.Books.{disk_of, shape_of, left_of, StandsFor}
@@ -15,23 +13,18 @@ use Rattle.walter_record.specs.Spelling.{record_spelled}
 use Rattle.walter_rules.specs.Layouts.{Layout, one_area, two_areas, left_behind}
 use Rattle.walter_rules.specs.Standing.{Standing}
 
--- the disk, bare or under a book
-abbrev pub disk_of_store : {D : Type 0} {g : Ghosts D} → Store D g → D
-disk_of_store (Open book) = disk_of book
-disk_of_store (Closed disk) = disk
+-- the disk, under a book or bare
+abbrev pub disk_under : {D : Type 0} {g : Ghosts D} → Option (Book D g) → Option D → Option D
+disk_under None bare = bare
+disk_under (Some book) bare = Some (disk_of book)
 
-abbrev pub disk_under : {D : Type 0} {g : Ghosts D} → Option (Store D g) → Option D
-disk_under None = None
-disk_under (Some store) = Some (disk_of_store store)
+-- the book of a site that is up
+abbrev pub book_if : {D : Type 0} {g : Ghosts D} → (up : Bool) → Book D g → Option (Book D g)
+book_if up book = if up then Some book else None
 
--- whether it is a book
-abbrev pub is_open : {D : Type 0} {g : Ghosts D} → Store D g → Bool
-is_open (Open book) = true
-is_open (Closed disk) = false
-
-abbrev pub is_open_under : {D : Type 0} {g : Ghosts D} → Option (Store D g) → Bool
-is_open_under None = false
-is_open_under (Some store) = is_open store
+-- the bare disk of one that is down
+abbrev pub disk_if : {D : Type 0} {g : Ghosts D} → (up : Bool) → Book D g → Option D
+disk_if up book = if up then None else Some (disk_of book)
 
 -- how a book is laid out
 abbrev pub layout_by : Shape → Live → Layout
@@ -54,15 +47,15 @@ pub record IsOnDisk {D : Type 0} (g : Ghosts D) (layout : Layout) (S : Standing)
   pub begun : 0 < (g.known disk).size
   pub images : (image : List ℕ) → g.may_leave disk image → MayHaveRecords layout S.records S.flight image
 
--- the records of a site that stands so lie there
-abbrev pub IsStored : {D : Type 0} {g : Ghosts D} → Layout → Standing → Option (Store D g) → Type 0
-IsStored layout S None = ⊥
-IsStored layout S (Some (Open book)) = IsKept layout S book
-IsStored {g = g} layout S (Some (Closed disk)) = IsOnDisk g layout S disk
+-- the records of a site that stands so lie in its book, or on its bare disk
+abbrev pub IsStored : {D : Type 0} {g : Ghosts D} → Layout → Standing → Option (Book D g) → Option D → Type 0
+IsStored layout S (Some book) bare = IsKept layout S book
+IsStored {g = g} layout S None (Some disk) = IsOnDisk g layout S disk
+IsStored layout S None None = ⊥
 
 -- behind an event: the machine stands so, each record has its spelling, and the records lie in the book of a site that is
 -- up, or on the disk under it of one that is down
 pub record IsLeft {D : Type 0} {g : Ghosts D} (layout : Layout) (m : Machine) (S : Standing) (book : Book D g) : Type 0 where
   pub machine : HasStanding m S
   pub spelled : AreSpelled (catalog_in m).sites S
-  pub stored : IsStored layout S (Some (if is_up m then Open book else Closed (disk_of book)))
+  pub stored : IsStored layout S (book_if (is_up m) book) (disk_if (is_up m) book)

@@ -1,19 +1,18 @@
-ghost use Rattle.std.specs.Prelude.{◌≡◌, ◌≢◌, ◌+◌, ◌<◌, ◌≤◌, ℕ, List, ◌++◌, ◌∷◌, [], true, false, None, Some, map, is_ok, is_some, IsSome, IfSome, IfOk, IfErr, OnOk, OnErr, option_map};
+ghost use Rattle.std.specs.Prelude.{◌≡◌, ◌≢◌, ◌+◌, ◌<◌, ◌≤◌, ℕ, List, ◌++◌, ◌∷◌, [], true, false, not, None, Some, map, is_ok, is_some, IsSome, IfSome, IfOk, IfErr, OnOk, OnErr, option_map};
 ghost use Rattle.walter_base.specs.Vectors.{most_sites};
 ghost use Rattle.walter_checkpoint.specs.Loads.{IsAreas};
 ghost use Rattle.walter_engine.specs.Props.{props};
-ghost use Rattle.walter_engine.specs.Stores.{is_open_under};
 ghost use Rattle.walter_machine.specs.Machines.{is_up as is_up_machine};
 
 use crate::answers::{BeginFault, Effect, RefusedRestart};
 use crate::beginning::{begin_over, not_loaded};
 use crate::restarting::{raise, unloaded};
-use crate::store::{Store, arm, into_disk, store_of};
+use crate::store::{arm, close_unless, into_disk};
 use crate::writing::write;
 use std::alloc::Global;
 use std::mem;
 use walter_base::{Catalog, MaybeRecord, Mem, NoMemory, SiteId};
-use walter_checkpoint::{books_differ, load};
+use walter_checkpoint::{Book, books_differ, load};
 use walter_disk::Disk;
 use walter_machine::Machine;
 use walter_rules::{Came, Event};
@@ -26,10 +25,11 @@ pub struct Engine<D: Disk> {
     capacity: u64,
     // Of how many areas the journal is: as it was asked for, or, once the site has begun, as it was found.
     areas: u8,
-    // None only within a call.
-    store: Option<Store<D>>,
-    ghost there: { is_some store ≡ true },
-    ghost open: { is_open_under store ≡ is_up_machine machine },
+    // The journal of a site that is up, or the bare disk of one that is down. Neither is there only within a call.
+    book: Option<Book<D>>,
+    disk: Option<D>,
+    ghost open: { is_some book ≡ is_up_machine machine },
+    ghost bare: { is_some disk ≡ not (is_up_machine machine) },
     ghost laid: { IsAreas areas capacity } by { Prim.hlevel props },
 }
 
@@ -92,7 +92,8 @@ impl<D: Disk + Drop> Engine<D> {
             machine: Machine::new(alloc, copy, site),
             capacity,
             areas,
-            store: Some(Store::Closed(disk)),
+            book: None,
+            disk: Some(disk),
         })
     }
 
@@ -120,11 +121,13 @@ impl<D: Disk + Drop> Engine<D> {
     pub fn into_parts(self) -> (D, Machine)
         ensures { Some result.0 ≡ disk_in self }
     {
-        let Engine { store, machine, .. } = self;
-        match store {
-            Some(store) => (into_disk(store), machine),
-            None => unreachable!(),
-        }
+        let Engine {
+            book,
+            disk,
+            machine,
+            ..
+        } = self;
+        (into_disk(book, disk), machine)
     }
 
     /// The disk, as it is.
@@ -146,12 +149,7 @@ impl<D: Disk + Drop> Engine<D> {
         ensures up { is_up self.new ≡ is_up self.old }
         ensures stands { (S : Standing) → Stands self.old S → Stands self.new S }
     {
-        let Some(store) = mem::replace(&mut self.store, None) else {
-            unreachable!()
-        };
-        let (store, armed) = arm(store, nth, choice);
-        self.store = Some(store);
-        armed
+        arm(&mut self.book, &mut self.disk, nth, choice)
     }
 
     /// An event comes to the site. It takes all its memory before it writes to the journal.
@@ -213,19 +211,18 @@ impl<D: Disk + Drop> Engine<D> {
         ensures stops { event.now ≡ happens.Stop → disk_in self.new ≡ disk_in self.old }
         ensures tidy { event.now ≡ happens.Given inputs.Tick → IfSome (tables_in self.new) IsTidy }
     {
-        let Some(Store::Open(mut book)) = mem::replace(&mut self.store, None) else {
+        let Some(book) = &mut self.book else {
             unreachable!()
         };
         let Ok(ready) = self.machine.prepare(event) else {
-            self.store = Some(Store::Open(book));
             return Effect {
                 came: self.machine.want(event),
                 frames: Vec::new(self.alloc),
                 refused: None,
             };
         };
-        let (came, frames) = write(self.alloc, &mut self.machine, &mut book, event, ready);
-        self.store = Some(store_of(self.machine.is_up(), book));
+        let (came, frames) = write(self.alloc, &mut self.machine, book, event, ready);
+        close_unless(self.machine.is_up(), &mut self.book, &mut self.disk);
         Effect {
             came,
             frames,
@@ -262,19 +259,13 @@ impl<D: Disk + Drop> Engine<D> {
         // What is loaded is then what the site left.
         books_differ();
         let sites = self.sites();
-        let Some(store) = mem::replace(&mut self.store, None) else {
+        let Some(disk) = mem::replace(&mut self.disk, None) else {
             unreachable!()
         };
-        let (mut book, bodies) = match load(
-            self.alloc,
-            into_disk(store),
-            self.capacity,
-            self.areas,
-            sites,
-        ) {
+        let (mut book, bodies) = match load(self.alloc, disk, self.capacity, self.areas, sites) {
             Ok(loaded) => loaded,
             Err((disk, fault)) => {
-                self.store = Some(Store::Closed(disk));
+                self.disk = Some(disk);
                 let (outcome, refused) = unloaded(fault);
                 return Effect {
                     came: self.machine.rest(outcome),
@@ -286,7 +277,8 @@ impl<D: Disk + Drop> Engine<D> {
         let bodies = bodies.as_slice();
         let kept = self.machine.settle(bodies.len() as u64);
         let (came, refused) = raise(self.alloc, &mut self.machine, &mut book, bodies);
-        self.store = Some(store_of(self.machine.is_up(), book));
+        self.book = Some(book);
+        close_unless(self.machine.is_up(), &mut self.book, &mut self.disk);
         Effect {
             came: Came { kept, ..came },
             frames: Vec::new(self.alloc),
@@ -327,25 +319,20 @@ impl<D: Disk + Drop> Engine<D> {
         ensures engine { IsOfSameSite self.old self.new }
     {
         let sites = self.sites();
-        let Some(store) = mem::replace(&mut self.store, None) else {
+        let Some(disk) = mem::replace(&mut self.disk, None) else {
             unreachable!()
         };
-        let (mut book, bodies) = match load(
-            self.alloc,
-            into_disk(store),
-            self.capacity,
-            self.areas,
-            sites,
-        ) {
+        let (mut book, bodies) = match load(self.alloc, disk, self.capacity, self.areas, sites) {
             Ok(loaded) => loaded,
             Err((disk, fault)) => {
-                self.store = Some(Store::Closed(disk));
+                self.disk = Some(disk);
                 return Err(not_loaded(fault));
             }
         };
         self.areas = book.areas();
         let begun = begin_over(self.alloc, &mut self.machine, &mut book, bodies.as_slice());
-        self.store = Some(store_of(self.machine.is_up(), book));
+        self.book = Some(book);
+        close_unless(self.machine.is_up(), &mut self.book, &mut self.disk);
         begun
     }
 }

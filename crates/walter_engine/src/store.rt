@@ -1,64 +1,72 @@
-ghost use Rattle.std.specs.Prelude.{◌≡◌, ◌<◌, ◌++◌, ◌∷◌, [], Some, option_map, OnOk, OnErr, if◌then◌else◌};
-ghost use Rattle.walter_checkpoint.specs.Books.{disk_of};
-ghost use Rattle.walter_engine.specs.Stores.{disk_of_store, is_open, IsStored};
+//! Where the records of a site lie: in the book of one that is up, or on the bare disk of one that is down.
+ghost use Rattle.std.specs.Prelude.{◌≡◌, ◌<◌, ◌++◌, ◌∷◌, [], true, false, not, Some, None, is_some, option_map, IfSome, OnOk, OnErr};
+ghost use Rattle.walter_engine.specs.Stores.{book_if, disk_if, disk_under, IsStored};
 ghost use Rattle.walter_rules.specs.Layouts.{Layout};
 ghost use Rattle.walter_rules.specs.Standing.{Standing};
 
+use std::mem;
 use walter_base::{Mem, NoMemory};
 use walter_checkpoint::Book;
 use walter_disk::Disk;
 
-/// Where the records of a site lie.
-#[derive(Drop)]
-pub(crate) enum Store<D: Disk> {
-    /// In the book of a site that is up.
-    Open(Book<D>),
-    /// On the disk of one that is down.
-    Closed(D),
-}
-
-/// The disk, bare or under a book.
-pub(crate) fn into_disk<D: Disk>(store: Store<D>) -> D
-    ensures { result ≡ disk_of_store store }
+/// The disk, under a book or bare.
+pub(crate) fn into_disk<D: Disk + Drop>(book: Option<Book<D>>, disk: Option<D>) -> D
+    requires { is_some (disk_under book disk) ≡ true }
+    ensures { Some result ≡ disk_under book disk }
 {
-    match store {
-        Store::Open(book) => book.into_disk(),
-        Store::Closed(disk) => disk,
+    match (book, disk) {
+        (Some(book), _) => book.into_disk(),
+        (None, Some(disk)) => disk,
+        (None, None) => unreachable!(),
     }
 }
 
-/// The book of a site that is up, or the disk under it of one that isn't.
-pub(crate) fn store_of<D: Disk>(is_up: bool, book: Book<D>) -> Store<D>
-    ensures is { result ≡ (if is_up then Store.Open book else Store.Closed (disk_of book)) }
-    ensures disk { disk_of_store result ≡ disk_of book }
-    ensures open { is_open result ≡ is_up }
+/// Where the site is down, its disk is bare again.
+pub(crate) fn close_unless<D: Disk + Drop>(
+    is_up: bool,
+    book: &mut Option<Book<D>>,
+    disk: &mut Option<D>,
+)
+    requires book { is_some book.old ≡ true }
+    requires bare { disk.old ≡ None }
+    ensures book { IfSome book.old (λ was. book.new ≡ book_if is_up was) }
+    ensures bare { IfSome book.old (λ was. disk.new ≡ disk_if is_up was) }
+    ensures same { disk_under book.new disk.new ≡ disk_under book.old disk.old }
+    ensures open { is_some book.new ≡ is_up }
+    ensures closed { is_some disk.new ≡ not is_up }
 {
     if is_up {
-        Store::Open(book)
-    } else {
-        Store::Closed(book.into_disk())
+        return;
+    }
+    if let Some(open) = mem::replace(book, None) {
+        *disk = Some(open.into_disk());
     }
 }
 
-/// Arms the disk, bare or under a book.
-pub(crate) fn arm<D: Disk>(store: Store<D>, nth: u64, choice: u64) -> (Store<D>, Mem<()>)
-    requires { 0 < nth }
-    ensures armed { let old = D.known (disk_of_store store) in OnOk result.1 (D.known (disk_of_store result.0)
-        ≡ record old { arms = option_map (λ arms. arms ++ (nth, choice) ∷ []) old.arms }) }
-    ensures same { OnErr result.1 (D.known (disk_of_store result.0) ≡ D.known (disk_of_store store)) }
-    ensures device { D.device_calls (disk_of_store result.0) ≡ D.device_calls (disk_of_store store) }
-    ensures open { is_open result.0 ≡ is_open store }
-    ensures stored { (layout : Layout) (S : Standing) → IsStored layout S (Some store)
-        → IsStored layout S (Some result.0) }
+/// Arms the disk, under a book or bare.
+pub(crate) fn arm<D: Disk>(
+    book: &mut Option<Book<D>>,
+    disk: &mut Option<D>,
+    nth: u64,
+    choice: u64,
+) -> Mem<()>
+    requires place { 0 < nth }
+    requires there { is_some (disk_under book.old disk.old) ≡ true }
+    ensures armed { OnOk result (IfSome (disk_under book.old disk.old) (λ old.
+        IfSome (disk_under book.new disk.new) (λ new. D.known new
+        ≡ record (D.known old) { arms = option_map (λ arms. arms ++ (nth, choice) ∷ []) (D.known old).arms }))) }
+    ensures same { OnErr result (IfSome (disk_under book.old disk.old) (λ old.
+        IfSome (disk_under book.new disk.new) (λ new. D.known new ≡ D.known old))) }
+    ensures device { IfSome (disk_under book.old disk.old) (λ old.
+        IfSome (disk_under book.new disk.new) (λ new. D.device_calls new ≡ D.device_calls old)) }
+    ensures open { is_some book.new ≡ is_some book.old }
+    ensures bare { is_some disk.new ≡ is_some disk.old }
+    ensures stored { (layout : Layout) (S : Standing) → IsStored layout S book.old disk.old
+        → IsStored layout S book.new disk.new }
 {
-    match store {
-        Store::Open(mut book) => {
-            let armed = book.arm(nth, choice).map_err(|_| NoMemory);
-            (Store::Open(book), armed)
-        }
-        Store::Closed(mut disk) => {
-            let armed = disk.arm(nth, choice).map_err(|_| NoMemory);
-            (Store::Closed(disk), armed)
-        }
+    if let Some(book) = book {
+        return book.arm(nth, choice).map_err(|_| NoMemory);
     }
+    let Some(disk) = disk else { unreachable!() };
+    disk.arm(nth, choice).map_err(|_| NoMemory)
 }

@@ -172,7 +172,7 @@ fn spell<D: Disk>(alloc: Global, book: &mut Book<D>, rec: &Record) -> Mem<Bytes>
     ensures same { IsSameButRoom book.old book.new }
 {
     let body = walter_record::encode(alloc, rec)?;
-    match book.make_room(body.len() as u64) {
+    match book.make_room(body.as_slice().len() as u64) {
         Ok(()) => Ok(body),
         Err(_) => Err(NoMemory),
     }

@@ -1,11 +1,11 @@
-use Rattle.std.proofs.Common.{◌≡◌, [], ℕ, List, map, Bool, false, Option, Some, None, refl, sym, ◌∙◌, subst, ap, if◌then◌else◌}
+use Rattle.std.proofs.Common.{◌≡◌, [], ℕ, List, map, Bool, false, Option, Some, None, refl, sym, ◌∙◌, subst, ap}
+use Rattle.std.specs.Prelude.{IfSome, not}
 use Rattle.walter_base.specs.declared.catalog.Catalog.{Catalog}
 use Rattle.walter_base.specs.declared.message.Record.{Record}
 use Rattle.walter_disk.specs.Images.{LeavesOnly}
 use Rattle.walter_engine.specs.Contents.{AreSpelled, MayHaveNext}
 use Rattle.walter_engine.specs.Engines.{layout_for}
-use Rattle.walter_engine.specs.Stores.{disk_under, disk_of_store, IsLeft, IsStored}
-use Rattle.walter_engine.specs.declared.store.Store.TheVariants.{Open, Closed}
+use Rattle.walter_engine.specs.Stores.{book_if, disk_if, disk_under, IsLeft, IsStored}
 use Rattle.walter_checkpoint.specs.Books.{disk_of}
 use Rattle.walter_machine.specs.Machines.{catalog_in, site_in, tables_in}
 use Rattle.walter_machine.specs.Readiness.{rec_in, IsReadyFor}
@@ -14,7 +14,7 @@ use Rattle.walter_rules.specs.Standing.{stands_after}
 use Rattle.walter_rules.specs.Trails.{Comes, TakesMemory, want}
 use Rattle.walter_engine.proofs.Crashes.{unmoved_next}
 use Rattle.walter_engine.proofs.Loads.{stands_left, always}
-use Rattle.walter_engine.proofs.Taking.{same_parts, come_as, stop_brings, counted_up}
+use Rattle.walter_engine.proofs.Taking.{same_parts, come_as, stop_brings, counted_up, none_of}
 use Rattle.walter_engine.proofs.Written.{state_up, want_is, unrefused, is_refusal, leaves_kept, ups_same, faults_as, calls_as, sized_as}
 use Rattle.walter_engine.proofs.engine.Engine.act.Goals as goal
 use Rattle.walter_machine.proofs.Sizes.{sized_only}
@@ -29,8 +29,8 @@ returns-in_default-prepare g c =
     let layout = layout_for c.args.self.now.areas c.args.self.now.capacity (catalog_in c.args.self.now.machine).sites in
     let same_layout : layout_for c.args.self.now.areas c.args.self.now.capacity (catalog_in c.prepare.new.self).sites ≡ layout =
     ap (λ (x : Catalog). layout_for c.args.self.now.areas c.args.self.now.capacity x.sites) c.prepare.ensures.same.catalog in
-    let was = sym c.replace.ensures.value ∙ c.in-Some-Open.is ∙ ap Some c.in-Some-Open.field-0-is in
-    let before = ap disk_under was in
+    let was = c.in-Some.is in
+    let before = ap (λ o. disk_under {g = g.D.Disk} o c.args.self.now.disk) was in
     let came = c.want.ensures.came in
     let free = c.in_default-prepare.ensures.free in
     record {
@@ -40,21 +40,22 @@ returns-in_default-prepare g c =
                 let up = state_up S (tables_in c.args.self.now.machine) stands.machine.state in
                 let takes = subst (λ (b : Bool). TakesMemory b c.args.event.now) (sym (up ∙ c.requires.up)) free in
                 let standing = c.prepare.ensures.stands S stands.machine in
-                let stored = subst (λ o. IsStored {g = g.D.Disk} layout S o) was stands.store in
+                let stored = subst (λ o. IsStored {g = g.D.Disk} layout S o c.args.self.now.disk) was stands.stored in
                 let spelled = subst (λ (x : Catalog). AreSpelled x.sites S) (sym c.prepare.ensures.same.catalog) stands.spelled in
                 let left = leaves_kept {g = g.D.Disk} g.met.D.Disk.size_is (catalog_in c.prepare.new.self) layout (site_in c.prepare.new.self) S c.args.event.now spelled c.prepare.new.self refl c.want.result
-                (c.want.ensures.stands S standing takes) c.in-Some-Open.book stored (ups_same (catalog_in c.prepare.new.self) (site_in c.prepare.new.self) S c.args.event.now c.want.result (want c.args.event.now) (ap (λ (x : Came). x.outcome) came) ((want_is c.args.event.now).3 S.up)) (ap (λ (x : Came). x.wrote) came) (ap (λ (x : Came). x.flight) came) in
-                let store_is = ap (λ (b : Bool). Some (if b then Open c.in-Some-Open.book else Closed (disk_of c.in-Some-Open.book))) (sym c.prepare.ensures.up) in
+                (c.want.ensures.stands S standing takes) c.in-Some.book stored (ups_same (catalog_in c.prepare.new.self) (site_in c.prepare.new.self) S c.args.event.now c.want.result (want c.args.event.now) (ap (λ (x : Came). x.outcome) came) ((want_is c.args.event.now).3 S.up)) (ap (λ (x : Came). x.wrote) came) (ap (λ (x : Came). x.flight) came) in
+                let book_is = ap (λ (b : Bool). book_if b c.in-Some.book) (sym c.prepare.ensures.up) in
+                let disk_is = none_of c.args.self.now.disk (c.args.self.now.bare ∙ ap not c.requires.up) ∙ ap (λ (b : Bool). disk_if {g = g.D.Disk} b c.in-Some.book) (sym c.prepare.ensures.up) in
                 let comes = same_parts (λ x k. Comes x layout k S c.args.event.now c.want.result) (catalog_in c.prepare.new.self) (catalog_in c.args.self.now.machine) (site_in c.prepare.new.self) (site_in c.args.self.now.machine) (sym c.prepare.ensures.same.catalog) (sym c.prepare.ensures.same.id)
                 (c.want.ensures.comes layout S takes) in
-                let left_here = same_parts (λ x k. IsLeft {g = g.D.Disk} layout c.prepare.new.self (stands_after x k S c.args.event.now c.want.result) c.in-Some-Open.book) (catalog_in c.prepare.new.self) (catalog_in c.args.self.now.machine) (site_in c.prepare.new.self) (site_in c.args.self.now.machine) (sym c.prepare.ensures.same.catalog) (sym c.prepare.ensures.same.id) left in
+                let left_here = same_parts (λ x k. IsLeft {g = g.D.Disk} layout c.prepare.new.self (stands_after x k S c.args.event.now c.want.result) c.in-Some.book) (catalog_in c.prepare.new.self) (catalog_in c.args.self.now.machine) (site_in c.prepare.new.self) (site_in c.args.self.now.machine) (sym c.prepare.ensures.same.catalog) (sym c.prepare.ensures.same.id) left in
                 come_as {g = g.D.Disk} (catalog_in c.args.self.now.machine) layout (site_in c.args.self.now.machine) S c.args.event.now c.want.result _ (ap (λ (x : Came). x.kept) came)
                 (λ down restart. absurd (let e = sym (up ∙ c.requires.up) ∙ down in cc)) comes
-                (stands_left {g = g.D.Disk} _ _ c.in-Some-Open.book layout same_layout left_here store_is);
+                (stands_left {g = g.D.Disk} _ _ c.in-Some.book layout same_layout left_here book_is disk_is);
             any_moment = λ S stands.
                 rw before
-                (unmoved_next {g = g.D.Disk} g.met.D.Disk.only_now c.in-Some-Open.book (catalog_in c.args.self.now.machine) layout (site_in c.args.self.now.machine) S c.args.event.now c.want.result.kept (subst (λ o. IsStored {g = g.D.Disk} layout S o) was stands.store));
-            refused = always (λ (bytes : List ℕ). Unit {0}) (g.D.Disk.known (disk_of c.in-Some-Open.book)).reads (λ bytes. tt);
+                (unmoved_next {g = g.D.Disk} g.met.D.Disk.only_now c.in-Some.book (catalog_in c.args.self.now.machine) layout (site_in c.args.self.now.machine) S c.args.event.now c.want.result.kept (subst (λ o. IsStored {g = g.D.Disk} layout S o c.args.self.now.disk) was stands.stored));
+            refused = always (λ (bytes : List ℕ). Unit {0}) (g.D.Disk.known (disk_of c.in-Some.book)).reads (λ bytes. tt);
             why = λ refused. absurd (let e = sym (ap is_refusal refused) ∙ ap (λ (x : Came). is_refusal x.outcome) came ∙ (want_is c.args.event.now).1 in cc);
             sized = sized_as _ c.want.result _ came (sized_only _ (want c.args.event.now) (want_is c.args.event.now).2);
             framed =
@@ -82,47 +83,49 @@ returns g c =
     let layout = layout_for c.args.self.now.areas c.args.self.now.capacity (catalog_in c.args.self.now.machine).sites in
     let same_layout : layout_for c.args.self.now.areas c.args.self.now.capacity (catalog_in c.write-came.new.machine).sites ≡ layout =
     ap (λ (x : Catalog). layout_for c.args.self.now.areas c.args.self.now.capacity x.sites) (c.write-came.ensures.same.catalog ∙ c.prepare.ensures.same.catalog) in
-    let was = sym c.replace.ensures.value ∙ c.in-Some-Open.is ∙ ap Some c.in-Some-Open.field-0-is in
-    let before = ap disk_under was in
-    let now = ap Some c.store_of.ensures.disk in
+    let was = c.in-Some.is in
+    let before = ap (λ o. disk_under {g = g.D.Disk} o c.args.self.now.disk) was in
+    let now = c.close_unless.ensures.same in
     record {
       taken =
           record {
             comes = λ S stands.
                 let up = state_up S (tables_in c.args.self.now.machine) stands.machine.state in
                 let standing = c.prepare.ensures.stands S stands.machine in
-                let stored = subst (λ o. IsStored {g = g.D.Disk} layout S o) was stands.store in
+                let stored = subst (λ o. IsStored {g = g.D.Disk} layout S o c.args.self.now.disk) was stands.stored in
                 let spelled = subst (λ (x : Catalog). AreSpelled x.sites S) (sym c.prepare.ensures.same.catalog) stands.spelled in
                 let ready_for = (same_parts (λ x k. IsReadyFor x k (tables_in c.prepare.new.self) S c.args.event.now c.in-Ok.ready) (catalog_in c.args.self.now.machine) (catalog_in c.prepare.new.self) (site_in c.args.self.now.machine) (site_in c.prepare.new.self) c.prepare.ensures.same.catalog c.prepare.ensures.same.id
                 (c.in-Ok.ensures.ready S stands.machine)) in
                 let counted = counted_up c.prepare.new.self S (rec_in c.in-Ok.ready) (up ∙ c.requires.up) standing in
-                let store_is = ap Some (c.store_of.ensures.is
-                ∙ ap (λ (b : Bool). if b then Open c.write-came.new.book else Closed (disk_of c.write-came.new.book)) c.is_up.ensures) in
+                let book_is = c.close_unless.ensures.book ∙ ap (λ (b : Bool). book_if b c.write-came.new.book) c.is_up.ensures in
+                let disk_is = c.close_unless.ensures.bare ∙ ap (λ (b : Bool). disk_if {g = g.D.Disk} b c.write-came.new.book) c.is_up.ensures in
                 let comes = same_parts (λ x k. Comes x layout k S c.args.event.now c.write-came.result.0) (catalog_in c.prepare.new.self) (catalog_in c.args.self.now.machine) (site_in c.prepare.new.self) (site_in c.args.self.now.machine) (sym c.prepare.ensures.same.catalog) (sym c.prepare.ensures.same.id)
                 (c.write-came.ensures.comes layout S standing counted ready_for spelled stored) in
                 let left = same_parts (λ x k. IsLeft {g = g.D.Disk} layout c.write-came.new.machine (stands_after x k S c.args.event.now c.write-came.result.0) c.write-came.new.book) (catalog_in c.prepare.new.self) (catalog_in c.args.self.now.machine) (site_in c.prepare.new.self) (site_in c.args.self.now.machine) (sym c.prepare.ensures.same.catalog) (sym c.prepare.ensures.same.id)
                 (c.write-came.ensures.leaves layout S standing counted ready_for spelled stored) in
                 come_as {g = g.D.Disk} (catalog_in c.args.self.now.machine) layout (site_in c.args.self.now.machine) S c.args.event.now c.write-came.result.0 _ c.write-came.ensures.none_kept
                 (λ down restart. absurd (let e = sym (up ∙ c.requires.up) ∙ down in cc)) comes
-                (stands_left {g = g.D.Disk} _ _ c.write-came.new.book layout same_layout left store_is);
+                (stands_left {g = g.D.Disk} _ _ c.write-came.new.book layout same_layout left book_is disk_is);
             any_moment = λ S stands.
                 let ready_for = (same_parts (λ x k. IsReadyFor x k (tables_in c.prepare.new.self) S c.args.event.now c.in-Ok.ready) (catalog_in c.args.self.now.machine) (catalog_in c.prepare.new.self) (site_in c.args.self.now.machine) (site_in c.prepare.new.self) c.prepare.ensures.same.catalog c.prepare.ensures.same.id
                 (c.in-Ok.ensures.ready S stands.machine)) in
-                rw (before, c.store_of.ensures.disk)
-                (same_parts (λ x k. LeavesOnly g.D.Disk.moment g.D.Disk.left_since (disk_of c.in-Some-Open.book) (disk_of c.write-came.new.book) (MayHaveNext x layout k S c.args.event.now c.write-came.result.0.kept))
+                rw (before, c.close_unless.ensures.same)
+                (same_parts (λ x k. LeavesOnly g.D.Disk.moment g.D.Disk.left_since (disk_of c.in-Some.book) (disk_of c.write-came.new.book) (MayHaveNext x layout k S c.args.event.now c.write-came.result.0.kept))
                 (catalog_in c.prepare.new.self) (catalog_in c.args.self.now.machine) (site_in c.prepare.new.self) (site_in c.args.self.now.machine) (sym c.prepare.ensures.same.catalog) (sym c.prepare.ensures.same.id)
-                (subst (λ (o : Option Record). LeavesOnly g.D.Disk.moment g.D.Disk.left_since (disk_of c.in-Some-Open.book) (disk_of c.write-came.new.book) (MayHaveNext (catalog_in c.prepare.new.self) layout (site_in c.prepare.new.self) S c.args.event.now o))
-                (sym c.write-came.ensures.none_kept) (c.write-came.ensures.any_moment layout S ready_for (subst (λ o. IsStored {g = g.D.Disk} layout S o) was stands.store))));
-            refused = always (λ (bytes : List ℕ). Unit {0}) (g.D.Disk.known (disk_of_store c.store_of.result)).reads (λ bytes. tt);
+                (subst (λ (o : Option Record). LeavesOnly g.D.Disk.moment g.D.Disk.left_since (disk_of c.in-Some.book) (disk_of c.write-came.new.book) (MayHaveNext (catalog_in c.prepare.new.self) layout (site_in c.prepare.new.self) S c.args.event.now o))
+                (sym c.write-came.ensures.none_kept) (c.write-came.ensures.any_moment layout S ready_for (subst (λ o. IsStored {g = g.D.Disk} layout S o c.args.self.now.disk) was stands.stored))));
+            refused = always (λ d. IfSome (g.D.Disk.known d).reads (λ bytes. Unit {0}))
+                (disk_under c.close_unless.new.book c.close_unless.new.disk)
+                (λ d. always (λ (bytes : List ℕ). Unit {0}) (g.D.Disk.known d).reads (λ bytes. tt));
             why = λ refused. absurd (let e = sym (ap is_refusal refused)
                 ∙ unrefused _ _ _ c.args.event.now c.in-Ok.ready _ _ c.in-Ok.ensures.anyway c.write-came.ensures.outcome in cc);
             sized = subst (λ (x : Catalog). IsSized x.sites c.write-came.result.0) c.prepare.ensures.same.catalog c.write-came.ensures.sized;
             framed = subst (λ (x : Catalog). c.write-came.result.1.items ≡ map (λ (s : Send). frame_of x.sites s.1) c.write-came.result.0.sends)
                 c.prepare.ensures.same.catalog c.write-came.ensures.framed;
             none_dropped = c.write-came.ensures.none_dropped;
-            faults = rw (before, c.store_of.ensures.disk) c.write-came.ensures.faults;
-            arms = rw (before, c.store_of.ensures.disk) c.write-came.ensures.arms;
-            tells = rw (before, c.store_of.ensures.disk) c.write-came.ensures.tells;
+            faults = rw (before, c.close_unless.ensures.same) c.write-came.ensures.faults;
+            arms = rw (before, c.close_unless.ensures.same) c.write-came.ensures.arms;
+            tells = rw (before, c.close_unless.ensures.same) c.write-came.ensures.tells;
             engine = record {
               catalog = c.write-came.ensures.same.catalog ∙ c.prepare.ensures.same.catalog;
               site = c.write-came.ensures.same.id ∙ c.prepare.ensures.same.id;
@@ -130,7 +133,7 @@ returns g c =
               layout = same_layout;
             };
           };
-      device = rw (before, c.store_of.ensures.disk) c.write-came.ensures.device;
+      device = rw (before, c.close_unless.ensures.same) c.write-came.ensures.device;
       stops = λ stop.
           let none = ap (λ (e : Expected). e.wrote) c.in-Ok.ensures.anyway.ready_for.rule
           ∙ ap (λ e. (rule (catalog_in c.args.self.now.machine) (site_in c.args.self.now.machine) c.in-Ok.ensures.anyway.S e).wrote) stop ∙ stop_brings (catalog_in c.args.self.now.machine) (site_in c.args.self.now.machine) c.in-Ok.ensures.anyway.S in

@@ -33,12 +33,12 @@ returns g c =
                 come_as {g = g.D.Disk} catalog layout i S event came engine (ap (λ (x : Came). x.kept) only)
                 (λ down restart. c.requires.stays restart) (c.decline.ensures.comes layout S stands.machine)
                 (stands_same {g = g.D.Disk} engine catalog i S event came (c.decline.ensures.stands S stands.machine)
-                stands.spelled layout refl stands.store closed (ap (λ (x : Came). x.wrote) only)
+                stands.spelled layout refl stands.stored closed (ap (λ (x : Came). x.wrote) only)
                 (ap (λ (x : Came). x.flight) only)
                 (ap is_full (c.decline.ensures.ruled S down) ∙ rule_fits catalog i S event));
             any_moment = λ S stands.
-                disk_next {g = g.D.Disk} g.met.D.Disk.only_now catalog layout i S event came.kept engine.store stands.store closed;
-            refused = always (λ d. IfSome (g.D.Disk.known d).reads (λ bytes. Unit {0})) (disk_under engine.store)
+                disk_next {g = g.D.Disk} g.met.D.Disk.only_now catalog layout i S event came.kept engine.book engine.disk stands.stored closed;
+            refused = always (λ d. IfSome (g.D.Disk.known d).reads (λ bytes. Unit {0})) (disk_under engine.book engine.disk)
                 (λ d. always (λ (bytes : List ℕ). Unit {0}) (g.D.Disk.known d).reads (λ bytes. tt));
             why = λ refused. absurd (let e = sym (ap is_refusal refused) ∙ ap is_refusal (c.decline.ensures.ruled unmade refl)
                 ∙ rule_allows catalog i unmade event in cc);
@@ -48,13 +48,13 @@ returns g c =
                 ap (λ (x : Came). map (λ (s : Send). frame_of catalog.sites s.1) x.sends) only in
                 cc;
             none_dropped = ap (λ (x : Came). x.dropped) only;
-            faults = if_twice (disk_under engine.store) (λ b n. IsFaulty came (g.D.Disk.known b).faults (g.D.Disk.known n).faults)
+            faults = if_twice (disk_under engine.book engine.disk) (λ b n. IsFaulty came (g.D.Disk.known b).faults (g.D.Disk.known n).faults)
                 (λ disk. faults_as came false _ _ c.decline.ensures.fine refl);
-            arms = if_twice (disk_under engine.store) (λ b n. (g.D.Disk.known n).arms ≡ (g.D.Disk.known b).arms) (λ disk. refl);
-            tells = if_twice (disk_under engine.store) (λ b n. is_some (g.D.Disk.known n).reads ≡ is_some (g.D.Disk.known b).reads)
+            arms = if_twice (disk_under engine.book engine.disk) (λ b n. (g.D.Disk.known n).arms ≡ (g.D.Disk.known b).arms) (λ disk. refl);
+            tells = if_twice (disk_under engine.book engine.disk) (λ b n. is_some (g.D.Disk.known n).reads ≡ is_some (g.D.Disk.known b).reads)
                 (λ disk. refl);
             engine = record { catalog = refl; site = refl; capacity = refl; layout = refl };
           };
-      device = if_twice (disk_under engine.store) (λ b n. AreCalls came (g.D.Disk.device_calls b) (g.D.Disk.device_calls n))
+      device = if_twice (disk_under engine.book engine.disk) (λ b n. AreCalls came (g.D.Disk.device_calls b) (g.D.Disk.device_calls n))
           (λ disk. calls_as came None None _ _ (ap (λ (x : Came). x.wrote) only) (ap (λ (x : Came). x.flight) only) refl);
     }

@@ -1,11 +1,10 @@
-use Rattle.std.proofs.Common.{◌≡◌, ◌≤◌, ◌<◌, ◌+◌, ◌^◌, [], ℕ, List, map, Bool, Option, Some, refl, sym, ◌∙◌, subst, ap, inl, if◌then◌else◌, arith}
+use Rattle.std.proofs.Common.{◌≡◌, ◌≤◌, ◌<◌, ◌+◌, ◌^◌, [], ℕ, List, map, Bool, Option, Some, refl, sym, ◌∙◌, subst, ap, inl, arith}
 use Rattle.std.specs.Prelude.{IfSome, IsSome}
 use Rattle.walter_base.specs.declared.catalog.Catalog.{Catalog}
 use Rattle.walter_disk.specs.Images.{LeavesOnly}
 use Rattle.walter_engine.specs.Contents.{AreSpelled, MayHaveNext}
-use Rattle.walter_engine.specs.Stores.{disk_under, is_open_under, IsOnDisk, IsStored}
-use Rattle.walter_engine.specs.declared.store.Store.TheVariants.{Open, Closed}
-use Rattle.walter_machine.specs.Machines.{catalog_in, site_in, tables_in, is_up}
+use Rattle.walter_engine.specs.Stores.{book_if, disk_if, IsStored}
+use Rattle.walter_machine.specs.Machines.{catalog_in, site_in, tables_in}
 use Rattle.walter_rules.specs.declared.entry.Came.{Came}
 use Rattle.walter_rules.specs.declared.event.Event.TheVariants.{Restart}
 use Rattle.walter_rules.specs.declared.outcome.Outcome.{Outcome}
@@ -14,7 +13,7 @@ use Rattle.std.proofs.lemmas.List.{length-map}
 use Rattle.walter_disk.proofs.Moments.{weaker}
 use Rattle.walter_engine.proofs.Loads.{there_loaded, found_there, lies_settled, come_raised, come_unloaded, leaves_loaded, refused_loaded, refused_unloaded, restarts_loaded, restarts_unloaded, unloaded_is, unloaded_faults, calls_of_restart, packs_are}
 use Rattle.walter_engine.proofs.Raising.{has_cause}
-use Rattle.walter_engine.proofs.Resting.{on_closed, rests_on}
+use Rattle.walter_engine.proofs.Resting.{disk_bare, on_bare, stored_bare, rests_on}
 use Rattle.walter_engine.proofs.Taking.{same_parts, is_full, stands_same}
 use Rattle.walter_engine.proofs.Written.{state_up, faults_as, sized_as}
 use Rattle.walter_engine.proofs.engine.Engine.restart.Goals as goal
@@ -40,7 +39,9 @@ use Rattle.walter_rules.specs.Standing.{settled}
 pub returns-in-Err : goal.returns-in-Err
 returns-in-Err g c =
     let was = sym c.replace.ensures.value ∙ c.in-Some.is in
-    let before = ap disk_under was ∙ ap Some (sym c.into_disk.ensures) in
+    let closed = c.args.self.now.«open» ∙ c.requires.down in
+    let before = disk_bare g.D.Disk c.args.self.now.book c.args.self.now.disk closed ∙ was in
+    let now = disk_bare g.D.Disk c.args.self.now.book (Some c.in-Err.disk) closed in
     let law = c.books_differ.ensures in
     let load = c.in-Err.ensures in
     let shape = shape_by c.args.self.now.capacity (catalog_in c.args.self.now.machine).sites in
@@ -48,33 +49,31 @@ returns-in-Err g c =
     let for_ = for_is c.args.self.now.areas c.args.self.now.capacity (catalog_in c.args.self.now.machine).sites in
     let same_shape = ap (λ n. shape_by c.args.self.now.capacity n) c.sites-sites.ensures in
     let low : c.args.self.now.capacity < 2 ^ 64 = omega arith in
-    let cause = subst (λ (s : Shape). HasCause s c.in-Err.fault (g.D.Disk.may_leave c.into_disk.result) (g.D.Disk.known c.into_disk.result) (g.D.Disk.known c.in-Err.disk)) same_shape load.cause in
+    let cause = subst (λ (s : Shape). HasCause s c.in-Err.fault (g.D.Disk.may_leave c.in-Some.disk) (g.D.Disk.known c.in-Some.disk) (g.D.Disk.known c.in-Err.disk)) same_shape load.cause in
     let is_came = c.rest.ensures.came ∙ ap (λ (p : Outcome × Option RefusedRestart). only p.0) c.unloaded-outcome.ensures in
     let is_why = ap (λ (p : Outcome × Option RefusedRestart). p.1) c.unloaded-outcome.ensures in
     record {
       taken =
           record {
             comes = λ S stands.
-                let closed = subst (λ o. is_open_under {g = g.D.Disk} o ≡ is_up c.args.self.now.machine) was c.args.self.now.«open» ∙ c.requires.down in
-                let resting = subst (λ (d : g.row.D.Denot). IsOnDisk g.D.Disk layout S d) (sym c.into_disk.ensures)
-                (on_closed g.D.Disk layout S c.in-Some.store closed (subst (λ o. IsStored {g = g.D.Disk} layout S o) was stands.store)) in
+                let resting = on_bare g.D.Disk layout S c.args.self.now.book c.in-Some.disk closed
+                (subst (λ o. IsStored {g = g.D.Disk} layout S c.args.self.now.book o) was stands.stored) in
                 let down = state_up S (tables_in c.args.self.now.machine) stands.machine.state ∙ c.requires.down in
-                let still = rests_on g.D.Disk g.met.D.Disk.size_is g.met.D.Disk.counts_now layout S c.into_disk.result c.in-Err.disk resting load.tells
+                let still = rests_on g.D.Disk g.met.D.Disk.size_is g.met.D.Disk.counts_now layout S c.in-Some.disk c.in-Err.disk resting load.tells
                 (load.settled resting.begun) (load.any_moment resting.begun) in
-                come_unloaded {g = g.D.Disk} shape (λ bytes bodies. law.content_or_foreign shape bytes bodies) (λ bytes bodies at claimed. law.content_or_damaged shape bytes bodies at claimed low) layout for_ S c.into_disk.result c.in-Err.disk resting load.tells
+                come_unloaded {g = g.D.Disk} shape (λ bytes bodies. law.content_or_foreign shape bytes bodies) (λ bytes bodies at claimed. law.content_or_damaged shape bytes bodies at claimed low) layout for_ S c.in-Some.disk c.in-Err.disk resting load.tells
                 (catalog_in c.args.self.now.machine) (site_in c.args.self.now.machine) c.in-Err.fault c.rest.result _ _ down cause is_came is_why
-                (stands_same {g = g.D.Disk} _ (catalog_in c.args.self.now.machine) (site_in c.args.self.now.machine) S Restart c.rest.result (c.rest.ensures.stands S stands.machine down) stands.spelled layout refl still refl
+                (stands_same {g = g.D.Disk} _ (catalog_in c.args.self.now.machine) (site_in c.args.self.now.machine) S Restart c.rest.result (c.rest.ensures.stands S stands.machine down) stands.spelled layout refl (stored_bare g.D.Disk layout S c.args.self.now.book c.in-Err.disk closed still) closed
                 (ap (λ (x : Came). x.wrote) is_came) (ap (λ (x : Came). x.flight) is_came)
                 (ap (λ (x : Came). is_full x.outcome) is_came ∙ (unloaded_is c.in-Err.fault).2));
             any_moment = λ S stands.
-                let closed = subst (λ o. is_open_under {g = g.D.Disk} o ≡ is_up c.args.self.now.machine) was c.args.self.now.«open» ∙ c.requires.down in
-                let resting = subst (λ (d : g.row.D.Denot). IsOnDisk g.D.Disk layout S d) (sym c.into_disk.ensures)
-                (on_closed g.D.Disk layout S c.in-Some.store closed (subst (λ o. IsStored {g = g.D.Disk} layout S o) was stands.store)) in
+                let resting = on_bare g.D.Disk layout S c.args.self.now.book c.in-Some.disk closed
+                (subst (λ o. IsStored {g = g.D.Disk} layout S c.args.self.now.book o) was stands.stored) in
                 let down = state_up S (tables_in c.args.self.now.machine) stands.machine.state ∙ c.requires.down in
-                rw before
-                (weaker g.D.Disk.moment g.D.Disk.left_since c.into_disk.result c.in-Err.disk (g.D.Disk.may_leave c.into_disk.result) (MayHaveNext (catalog_in c.args.self.now.machine) layout (site_in c.args.self.now.machine) S Restart c.rest.result.kept)
+                rw (before, now)
+                (weaker g.D.Disk.moment g.D.Disk.left_since c.in-Some.disk c.in-Err.disk (g.D.Disk.may_leave c.in-Some.disk) (MayHaveNext (catalog_in c.args.self.now.machine) layout (site_in c.args.self.now.machine) S Restart c.rest.result.kept)
                 (λ image left. inl (resting.images image left)) (load.any_moment resting.begun));
-            refused =
+            refused = rw now
                 (subst (λ (w : Option RefusedRestart). IfSome (g.D.Disk.known c.in-Err.disk).reads (λ bytes. IfSome w (IsRefusedFor (catalog_in c.args.self.now.machine) shape (site_in c.args.self.now.machine) bytes)))
                 (sym is_why) (refused_unloaded (catalog_in c.args.self.now.machine) shape (site_in c.args.self.now.machine) c.in-Err.fault _ _ _ cause));
             why = λ refused. subst (λ (w : Option RefusedRestart). IsSome w) (sym is_why)
@@ -84,30 +83,31 @@ returns-in-Err g c =
                 let none : map (λ (s : Send). frame_of (catalog_in c.args.self.now.machine).sites s.1) c.rest.result.sends ≡ [] = ap (λ (x : Came). map (λ (s : Send). frame_of (catalog_in c.args.self.now.machine).sites s.1) x.sends) is_came in
                 cc;
             none_dropped = ap (λ (x : Came). x.dropped) is_came;
-            faults = rw before (faults_as c.rest.result _ _ _ (ap (λ (x : Came). is_faulty x.outcome) is_came)
+            faults = rw (before, now) (faults_as c.rest.result _ _ _ (ap (λ (x : Came). is_faulty x.outcome) is_came)
                 (unloaded_faults shape c.in-Err.fault _ _ _ cause));
-            arms = rw before load.arms;
-            tells = rw before load.tells;
+            arms = rw (before, now) load.arms;
+            tells = rw (before, now) load.tells;
             engine = record { catalog = refl; site = refl; capacity = refl; layout = refl };
           };
       loads =
-          rw before (record {
+          rw (before, now) (record {
             pack = 0;
             packs = inl refl;
             calls = record {
               all = rw (ap (λ (x : Came). x.wrote) is_came) tt;
-              at_most = subst (λ (s : Shape). g.D.Disk.device_calls c.in-Err.disk ≤ g.D.Disk.device_calls c.into_disk.result + (calls_of_load s c.args.self.now.areas (g.D.Disk.known c.into_disk.result).size + 0) + 4) same_shape (omega (arith, load.at_most));
+              at_most = subst (λ (s : Shape). g.D.Disk.device_calls c.in-Err.disk ≤ g.D.Disk.device_calls c.in-Some.disk + (calls_of_load s c.args.self.now.areas (g.D.Disk.known c.in-Some.disk).size + 0) + 4) same_shape (omega (arith, load.at_most));
             };
           });
       restarts =
           rw before (restarts_unloaded g.D.Disk g.met.D.Disk.size_is (catalog_in c.args.self.now.machine) shape layout (site_in c.args.self.now.machine) c.in-Err.fault
-          c.into_disk.result c.in-Err.disk c.rest.result _ c.in-Err.ensures.tells cause (ap (λ (x : Came). x.outcome) is_came) is_why);
+          c.in-Some.disk c.in-Err.disk c.rest.result _ c.in-Err.ensures.tells cause (ap (λ (x : Came). x.outcome) is_came) is_why);
     }
 
 pub returns : goal.returns
 returns g c =
     let was = sym c.replace.ensures.value ∙ c.in-Some.is in
-    let before = ap disk_under was ∙ ap Some (sym c.into_disk.ensures) in
+    let closed = c.args.self.now.«open» ∙ c.requires.down in
+    let before = disk_bare g.D.Disk c.args.self.now.book c.args.self.now.disk closed ∙ was in
     let law = c.books_differ.ensures in
     let load = c.in-Ok.ensures in
     let shape = shape_by c.args.self.now.capacity (catalog_in c.args.self.now.machine).sites in
@@ -120,8 +120,8 @@ returns g c =
     ap (λ (x : Catalog). layout_for c.args.self.now.areas c.args.self.now.capacity x.sites) (c.raise-came.ensures.same.catalog ∙ c.settle-kept.ensures.same.catalog) in
     let bodies = map (λ body. body.items) c.as_slice-bodies.result.now in
     let before_record = calls_before {g = g.D.Disk} c.in-Ok.loaded.0 bodies in
-    let loads : g.D.Disk.device_calls (disk_of c.in-Ok.loaded.0) ≡ g.D.Disk.device_calls c.into_disk.result + calls_of_load shape c.args.self.now.areas (g.D.Disk.known c.into_disk.result).size =
-    subst (λ (s : Shape). g.D.Disk.device_calls (disk_of c.in-Ok.loaded.0) ≡ g.D.Disk.device_calls c.into_disk.result + calls_of_load s c.args.self.now.areas (g.D.Disk.known c.into_disk.result).size) same_shape load.device in
+    let loads : g.D.Disk.device_calls (disk_of c.in-Ok.loaded.0) ≡ g.D.Disk.device_calls c.in-Some.disk + calls_of_load shape c.args.self.now.areas (g.D.Disk.known c.in-Some.disk).size =
+    subst (λ (s : Shape). g.D.Disk.device_calls (disk_of c.in-Ok.loaded.0) ≡ g.D.Disk.device_calls c.in-Some.disk + calls_of_load s c.args.self.now.areas (g.D.Disk.known c.in-Some.disk).size) same_shape load.device in
     let is_bodies = c.as_slice-bodies.ensures in
     let over = same_parts (λ x k. ComesOf x k (left_over (layout_of c.in-Ok.loaded.0) bodies) (map (λ body. body.items) c.as_slice-bodies.result.now) c.raise-came.result.0.wrote c.raise-came.result.1 c.raise-came.result.0.outcome)
     (catalog_in c.settle-kept.new.self) (catalog_in c.args.self.now.machine) (site_in c.settle-kept.new.self) (site_in c.args.self.now.machine) (sym c.settle-kept.ensures.same.catalog) (sym c.settle-kept.ensures.same.id)
@@ -130,44 +130,42 @@ returns g c =
       taken =
           record {
             comes = λ S stands.
-                let closed = subst (λ o. is_open_under {g = g.D.Disk} o ≡ is_up c.args.self.now.machine) was c.args.self.now.«open» ∙ c.requires.down in
-                let resting = subst (λ (d : g.row.D.Denot). IsOnDisk g.D.Disk layout S d) (sym c.into_disk.ensures)
-                (on_closed g.D.Disk layout S c.in-Some.store closed (subst (λ o. IsStored {g = g.D.Disk} layout S o) was stands.store)) in
+                let resting = on_bare g.D.Disk layout S c.args.self.now.book c.in-Some.disk closed
+                (subst (λ o. IsStored {g = g.D.Disk} layout S c.args.self.now.book o) was stands.stored) in
                 let down = state_up S (tables_in c.args.self.now.machine) stands.machine.state ∙ c.requires.down in
                 let one = subst (λ (b : List (List ℕ)). StandsFor {g = g.D.Disk} c.in-Ok.loaded.0 b) (sym c.as_slice-bodies.ensures) (load.loaded resting.told) in
-                let there = there_loaded {g = g.D.Disk} shape (λ bytes a b. law.content shape bytes a b low) layout for_ S c.into_disk.result c.in-Ok.loaded.0 shape_is bodies resting (load.image resting.begun) one in
+                let there = there_loaded {g = g.D.Disk} shape (λ bytes a b. law.content shape bytes a b low) layout for_ S c.in-Some.disk c.in-Ok.loaded.0 shape_is bodies resting (load.image resting.begun) one in
                 let count = length-map c.as_slice-bodies.result.now (λ body. body.items) in
                 let settles = c.settle-kept.ensures.settles S stands.machine (subst (λ (n : ℕ). AreFound S n) count (found_there S (map (λ body. body.items) c.as_slice-bodies.result.now) there)) in
-                let lies = lies_settled {g = g.D.Disk} shape (λ bytes a b. law.content shape bytes a b low) layout for_ S c.into_disk.result c.in-Ok.loaded.0 shape_is bodies resting (load.image resting.begun) one (catalog_in c.settle-kept.new.self) (site_in c.settle-kept.new.self) c.settle-kept.result
+                let lies = lies_settled {g = g.D.Disk} shape (λ bytes a b. law.content shape bytes a b low) layout for_ S c.in-Some.disk c.in-Ok.loaded.0 shape_is bodies resting (load.image resting.begun) one (catalog_in c.settle-kept.new.self) (site_in c.settle-kept.new.self) c.settle-kept.result
                 (subst (λ (x : Catalog). AreSpelled x.sites S) (sym c.settle-kept.ensures.same.catalog) stands.spelled) down settles.stands.told
                 settles.is_found (count ∙ settles.count) in
                 let raises = c.raise-came.ensures.raises layout (settled (catalog_in c.settle-kept.new.self) (site_in c.settle-kept.new.self) c.settle-kept.result S) lies settles.stands (settles.counted ∙ settles.count) in
-                let store_is = ap Some (c.store_of.ensures.is
-                ∙ ap (λ (b : Bool). if b then Open c.raise-came.new.book else Closed (disk_of c.raise-came.new.book)) c.is_up.ensures) in
+                let book_is = c.close_unless.ensures.book ∙ ap (λ (b : Bool). book_if b c.raise-came.new.book) c.is_up.ensures in
+                let disk_is = c.close_unless.ensures.bare ∙ ap (λ (b : Bool). disk_if {g = g.D.Disk} b c.raise-came.new.book) c.is_up.ensures in
                 let here = same_parts (λ x k. Raises {g = g.D.Disk} x layout k (settled x k c.settle-kept.result S) c.raise-came.result.0 c.raise-came.result.1 c.raise-came.new.machine c.raise-came.new.book) (catalog_in c.settle-kept.new.self) (catalog_in c.args.self.now.machine) (site_in c.settle-kept.new.self) (site_in c.args.self.now.machine) (sym c.settle-kept.ensures.same.catalog) (sym c.settle-kept.ensures.same.id)
                 raises in
-                come_raised {g = g.D.Disk} (catalog_in c.args.self.now.machine) layout (site_in c.args.self.now.machine) S c.settle-kept.result c.raise-came.result.0 c.raise-came.result.1 _ c.raise-came.new.book same_layout settles.is_found here store_is;
+                come_raised {g = g.D.Disk} (catalog_in c.args.self.now.machine) layout (site_in c.args.self.now.machine) S c.settle-kept.result c.raise-came.result.0 c.raise-came.result.1 _ c.raise-came.new.book same_layout settles.is_found here book_is disk_is;
             any_moment = λ S stands.
-                let closed = subst (λ o. is_open_under {g = g.D.Disk} o ≡ is_up c.args.self.now.machine) was c.args.self.now.«open» ∙ c.requires.down in
-                let resting = subst (λ (d : g.row.D.Denot). IsOnDisk g.D.Disk layout S d) (sym c.into_disk.ensures)
-                (on_closed g.D.Disk layout S c.in-Some.store closed (subst (λ o. IsStored {g = g.D.Disk} layout S o) was stands.store)) in
+                let resting = on_bare g.D.Disk layout S c.args.self.now.book c.in-Some.disk closed
+                (subst (λ o. IsStored {g = g.D.Disk} layout S c.args.self.now.book o) was stands.stored) in
                 let down = state_up S (tables_in c.args.self.now.machine) stands.machine.state ∙ c.requires.down in
                 let one = subst (λ (b : List (List ℕ)). StandsFor {g = g.D.Disk} c.in-Ok.loaded.0 b) (sym c.as_slice-bodies.ensures) (load.loaded resting.told) in
-                let there = there_loaded {g = g.D.Disk} shape (λ bytes a b. law.content shape bytes a b low) layout for_ S c.into_disk.result c.in-Ok.loaded.0 shape_is bodies resting (load.image resting.begun) one in
+                let there = there_loaded {g = g.D.Disk} shape (λ bytes a b. law.content shape bytes a b low) layout for_ S c.in-Some.disk c.in-Ok.loaded.0 shape_is bodies resting (load.image resting.begun) one in
                 let count = length-map c.as_slice-bodies.result.now (λ body. body.items) in
                 let settles = c.settle-kept.ensures.settles S stands.machine (subst (λ (n : ℕ). AreFound S n) count (found_there S (map (λ body. body.items) c.as_slice-bodies.result.now) there)) in
-                let lies = lies_settled {g = g.D.Disk} shape (λ bytes a b. law.content shape bytes a b low) layout for_ S c.into_disk.result c.in-Ok.loaded.0 shape_is bodies resting (load.image resting.begun) one (catalog_in c.settle-kept.new.self) (site_in c.settle-kept.new.self) c.settle-kept.result
+                let lies = lies_settled {g = g.D.Disk} shape (λ bytes a b. law.content shape bytes a b low) layout for_ S c.in-Some.disk c.in-Ok.loaded.0 shape_is bodies resting (load.image resting.begun) one (catalog_in c.settle-kept.new.self) (site_in c.settle-kept.new.self) c.settle-kept.result
                 (subst (λ (x : Catalog). AreSpelled x.sites S) (sym c.settle-kept.ensures.same.catalog) stands.spelled) down settles.stands.told
                 settles.is_found (count ∙ settles.count) in
-                rw (before, c.store_of.ensures.disk)
-                (same_parts (λ x k. LeavesOnly g.D.Disk.moment g.D.Disk.left_since c.into_disk.result (disk_of c.raise-came.new.book) (MayHaveNext x layout k S Restart c.settle-kept.result))
+                rw (before, c.close_unless.ensures.same)
+                (same_parts (λ x k. LeavesOnly g.D.Disk.moment g.D.Disk.left_since c.in-Some.disk (disk_of c.raise-came.new.book) (MayHaveNext x layout k S Restart c.settle-kept.result))
                 (catalog_in c.settle-kept.new.self) (catalog_in c.args.self.now.machine) (site_in c.settle-kept.new.self) (site_in c.args.self.now.machine) (sym c.settle-kept.ensures.same.catalog) (sym c.settle-kept.ensures.same.id)
-                (leaves_loaded {g = g.D.Disk} (catalog_in c.settle-kept.new.self) layout (site_in c.settle-kept.new.self) S c.settle-kept.result c.into_disk.result c.in-Ok.loaded.0 (disk_of c.raise-came.new.book) resting settles.is_found (load.any_moment resting.begun)
+                (leaves_loaded {g = g.D.Disk} (catalog_in c.settle-kept.new.self) layout (site_in c.settle-kept.new.self) S c.settle-kept.result c.in-Some.disk c.in-Ok.loaded.0 (disk_of c.raise-came.new.book) resting settles.is_found (load.any_moment resting.begun)
                 (c.raise-came.ensures.any_moment layout (settled (catalog_in c.settle-kept.new.self) (site_in c.settle-kept.new.self) c.settle-kept.result S) lies)));
-            refused = rw c.store_of.ensures.disk
+            refused = rw c.close_unless.ensures.same
                 (same_parts (λ x k. IfSome (g.D.Disk.known (disk_of c.raise-came.new.book)).reads (λ bytes. IfSome c.raise-came.result.1 (IsRefusedFor x shape k bytes)))
                 (catalog_in c.settle-kept.new.self) (catalog_in c.args.self.now.machine) (site_in c.settle-kept.new.self) (site_in c.args.self.now.machine) (sym c.settle-kept.ensures.same.catalog) (sym c.settle-kept.ensures.same.id)
-                (refused_loaded {g = g.D.Disk} (catalog_in c.settle-kept.new.self) shape (site_in c.settle-kept.new.self) c.into_disk.result (disk_of c.raise-came.new.book) c.in-Ok.loaded.0 bodies c.raise-came.result.1 shape_is
+                (refused_loaded {g = g.D.Disk} (catalog_in c.settle-kept.new.self) shape (site_in c.settle-kept.new.self) c.in-Some.disk (disk_of c.raise-came.new.book) c.in-Ok.loaded.0 bodies c.raise-came.result.1 shape_is
                 (λ told. subst (λ (b : List (List ℕ)). StandsFor {g = g.D.Disk} c.in-Ok.loaded.0 b) (sym c.as_slice-bodies.ensures) (load.loaded told))
                 load.tells c.raise-came.ensures.refused));
             why = has_cause (catalog_in c.settle-kept.new.self) (site_in c.settle-kept.new.self) (left_over (layout_of c.in-Ok.loaded.0) bodies) (map (λ body. body.items) c.as_slice-bodies.result.now) c.raise-came.result.0.wrote c.raise-came.result.1 c.raise-came.result.0.outcome
@@ -178,10 +176,10 @@ returns g c =
                 let none : map (λ (s : Send). frame_of (catalog_in c.args.self.now.machine).sites s.1) c.raise-came.result.0.sends ≡ [] = ap (λ (l : List Send). map (λ (s : Send). frame_of (catalog_in c.args.self.now.machine).sites s.1) l) c.raise-came.ensures.none_sent in
                 cc;
             none_dropped = c.raise-came.ensures.none_dropped;
-            faults = rw (before, c.store_of.ensures.disk)
+            faults = rw (before, c.close_unless.ensures.same)
                 (subst (λ (n : ℕ). IsFaulty c.raise-came.result.0 n (g.D.Disk.known (disk_of c.raise-came.new.book)).faults) load.faultless c.raise-came.ensures.faults);
-            arms = rw (before, c.store_of.ensures.disk) (c.raise-came.ensures.arms ∙ load.arms);
-            tells = rw (before, c.store_of.ensures.disk) (c.raise-came.ensures.tells ∙ load.tells);
+            arms = rw (before, c.close_unless.ensures.same) (c.raise-came.ensures.arms ∙ load.arms);
+            tells = rw (before, c.close_unless.ensures.same) (c.raise-came.ensures.tells ∙ load.tells);
             engine = record {
               catalog = c.raise-came.ensures.same.catalog ∙ c.settle-kept.ensures.same.catalog;
               site = c.raise-came.ensures.same.id ∙ c.settle-kept.ensures.same.id;
@@ -189,7 +187,7 @@ returns g c =
               layout = same_layout;
             };
           };
-      loads = rw (before, c.store_of.ensures.disk) (record {
+      loads = rw (before, c.close_unless.ensures.same) (record {
         pack = before_record;
         packs = packs_are {g = g.D.Disk} shape c.in-Ok.loaded.0 bodies shape_is;
         calls = record {
@@ -198,7 +196,7 @@ returns g c =
         };
       });
       restarts =
-          rw before (restarts_loaded g.D.Disk g.met.D.Disk.size_is (catalog_in c.args.self.now.machine) shape layout (site_in c.args.self.now.machine) c.into_disk.result c.in-Ok.loaded.0
+          rw before (restarts_loaded g.D.Disk g.met.D.Disk.size_is (catalog_in c.args.self.now.machine) shape layout (site_in c.args.self.now.machine) c.in-Some.disk c.in-Ok.loaded.0
           bodies (record c.raise-came.result.0 { kept = c.settle-kept.result }) c.raise-came.result.1 shape_is
           (λ told. subst (λ (b : List (List ℕ)). StandsFor {g = g.D.Disk} c.in-Ok.loaded.0 b) (sym is_bodies) (load.loaded told))
           (λ size. is_bodies ∙ load.fresh size)
