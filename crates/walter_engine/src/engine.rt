@@ -14,7 +14,7 @@ use std::mem;
 use walter_base::{Catalog, MaybeRecord, Mem, NoMemory, SiteId};
 use walter_checkpoint::{Book, books_differ, load};
 use walter_disk::Disk;
-use walter_machine::Machine;
+use walter_machine::{Machine, Ready};
 use walter_rules::{Came, Event};
 
 /// A site with its disk. Contracts say by `Stands` how it stands.
@@ -214,14 +214,15 @@ impl<D: Disk + Drop> Engine<D> {
         let Some(book) = &mut self.book else {
             unreachable!()
         };
-        let Ok(ready) = self.machine.prepare(event) else {
+        let mut ready = Ready::none(self.alloc);
+        let Ok(()) = self.machine.prepare(event, &mut ready) else {
             return Effect {
                 came: self.machine.want(event),
                 frames: Vec::new(self.alloc),
                 refused: None,
             };
         };
-        let (came, frames) = write(self.alloc, &mut self.machine, book, event, ready);
+        let (came, frames) = write(self.alloc, &mut self.machine, book, event, &mut ready);
         close_unless(self.machine.is_up(), &mut self.book, &mut self.disk);
         Effect {
             came,

@@ -63,7 +63,7 @@ pub(crate) fn raise<D: Disk>(
         (D.device_calls (disk_of book.old)) (D.device_calls (disk_of book.new)) }
     ensures same { IsSameSite machine.old machine.new }
 {
-    let ready = match ready_over(alloc, machine.catalog(), machine.id(), bodies) {
+    let mut ready = match ready_over(alloc, machine.catalog(), machine.id(), bodies) {
         Ok(ready) => ready,
         Err(why) => return (machine.rest(hindrance(why)), why),
     };
@@ -76,7 +76,7 @@ pub(crate) fn raise<D: Disk>(
     if pack_any(book, bodies).is_err() {
         return (machine.rest(Outcome::Failed), None);
     }
-    let (came, _) = put(alloc, machine, book, &Event::Restart, ready, body);
+    let (came, _) = put(alloc, machine, book, &Event::Restart, &mut ready, body);
     (came, None)
 }
 

@@ -34,33 +34,33 @@ pub(crate) fn write<D: Disk>(
     machine: &mut Machine,
     book: &mut Book<D>,
     event: &Event,
-    ready: Ready,
+    ready: &mut Ready,
 ) -> (Came, Vec<Framed>)
     requires room { is_up machine.old ≡ false → HasRoom machine.old }
-    requires countable { IsCountable machine.old ready }
-    requires anyway { IsReadyAnyway (catalog_in machine.old) (site_in machine.old) (tables_in machine.old) event.now ready }
-    ensures comes { (layout : Layout) (S : Standing) → HasStanding machine.old S → IsCounted machine.old S (rec_in ready)
-        → IsReadyFor (catalog_in machine.old) (site_in machine.old) (tables_in machine.old) S event.now ready
+    requires countable { IsCountable machine.old ready.old }
+    requires anyway { IsReadyAnyway (catalog_in machine.old) (site_in machine.old) (tables_in machine.old) event.now ready.old }
+    ensures comes { (layout : Layout) (S : Standing) → HasStanding machine.old S → IsCounted machine.old S (rec_in ready.old)
+        → IsReadyFor (catalog_in machine.old) (site_in machine.old) (tables_in machine.old) S event.now ready.old
         → AreSpelled (catalog_in machine.old).sites S → IsKept layout S book.old
         → Comes (catalog_in machine.old) layout (site_in machine.old) S event.now result.0 }
     ensures leaves { (layout : Layout) (S : Standing) → HasStanding machine.old S
-        → IsCounted machine.old S (rec_in ready)
-        → IsReadyFor (catalog_in machine.old) (site_in machine.old) (tables_in machine.old) S event.now ready
+        → IsCounted machine.old S (rec_in ready.old)
+        → IsReadyFor (catalog_in machine.old) (site_in machine.old) (tables_in machine.old) S event.now ready.old
         → AreSpelled (catalog_in machine.old).sites S → IsKept layout S book.old
         → IsLeft layout machine.new
         (stands_after (catalog_in machine.old) (site_in machine.old) S event.now result.0) book.new }
     // a crash at any moment of it leaves the records from before, with the one that the rule brings behind them or
     // without
     ensures any_moment { (layout : Layout) (S : Standing)
-        → IsReadyFor (catalog_in machine.old) (site_in machine.old) (tables_in machine.old) S event.now ready
+        → IsReadyFor (catalog_in machine.old) (site_in machine.old) (tables_in machine.old) S event.now ready.old
         → IsKept layout S book.old
         → LeavesOnly D.moment D.left_since (disk_of book.old) (disk_of book.new)
         (MayHaveNext (catalog_in machine.old) layout (site_in machine.old) S event.now None) }
-    ensures outcome { IsOutcomeOf event.now ready (left_of book.old) result.0.outcome }
+    ensures outcome { IsOutcomeOf event.now ready.old (left_of book.old) result.0.outcome }
     ensures up { is_up machine.new ≡ up_after event.now result.0.outcome (is_up machine.old) }
-    ensures sent { (came_in ready).sends ≡ [] → result.0.sends ≡ [] }
-    ensures wrote { result.0.outcome ≡ outcome.Taken → result.0.wrote ≡ rec_in ready }
-    ensures untouched { rec_in ready ≡ None → disk_of book.new ≡ disk_of book.old }
+    ensures sent { (came_in ready.old).sends ≡ [] → result.0.sends ≡ [] }
+    ensures wrote { result.0.outcome ≡ outcome.Taken → result.0.wrote ≡ rec_in ready.old }
+    ensures untouched { rec_in ready.old ≡ None → disk_of book.new ≡ disk_of book.old }
     ensures sized { IsSized (catalog_in machine.old).sites result.0 }
     ensures framed { result.1.items ≡ map (λ s. frame_of (catalog_in machine.old).sites s.1) result.0.sends }
     ensures none_dropped { result.0.dropped ≡ 0 }
@@ -74,7 +74,7 @@ pub(crate) fn write<D: Disk>(
         → IfSome (tables_in machine.new) IsTidy }
     ensures same { IsSameSite machine.old machine.new }
 {
-    match spell_any(alloc, book, &ready) {
+    match spell_any(alloc, book, ready) {
         Ok(body) => put(alloc, machine, book, event, ready, body),
         Err(_) => (machine.want(event), Vec::new(alloc)),
     }
@@ -86,35 +86,35 @@ pub(crate) fn put<D: Disk>(
     machine: &mut Machine,
     book: &mut Book<D>,
     event: &Event,
-    ready: Ready,
+    ready: &mut Ready,
     body: Option<Bytes>,
 ) -> (Came, Vec<Framed>)
     requires room { is_up machine.old ≡ false → HasRoom machine.old }
-    requires countable { IsCountable machine.old ready }
-    requires anyway { IsReadyAnyway (catalog_in machine.old) (site_in machine.old) (tables_in machine.old) event.now ready }
-    requires spelled { IsSpellingIfAny book.old (rec_in ready) body }
-    ensures comes { (layout : Layout) (S : Standing) → HasStanding machine.old S → IsCounted machine.old S (rec_in ready)
-        → IsReadyFor (catalog_in machine.old) (site_in machine.old) (tables_in machine.old) S event.now ready
+    requires countable { IsCountable machine.old ready.old }
+    requires anyway { IsReadyAnyway (catalog_in machine.old) (site_in machine.old) (tables_in machine.old) event.now ready.old }
+    requires spelled { IsSpellingIfAny book.old (rec_in ready.old) body }
+    ensures comes { (layout : Layout) (S : Standing) → HasStanding machine.old S → IsCounted machine.old S (rec_in ready.old)
+        → IsReadyFor (catalog_in machine.old) (site_in machine.old) (tables_in machine.old) S event.now ready.old
         → AreSpelled (catalog_in machine.old).sites S → IsKept layout S book.old
         → Comes (catalog_in machine.old) layout (site_in machine.old) S event.now result.0 }
     ensures leaves { (layout : Layout) (S : Standing) → HasStanding machine.old S
-        → IsCounted machine.old S (rec_in ready)
-        → IsReadyFor (catalog_in machine.old) (site_in machine.old) (tables_in machine.old) S event.now ready
+        → IsCounted machine.old S (rec_in ready.old)
+        → IsReadyFor (catalog_in machine.old) (site_in machine.old) (tables_in machine.old) S event.now ready.old
         → AreSpelled (catalog_in machine.old).sites S → IsKept layout S book.old
         → IsLeft layout machine.new
         (stands_after (catalog_in machine.old) (site_in machine.old) S event.now result.0) book.new }
     // a crash at any moment of it leaves the records from before, with the one that the rule brings behind them or
     // without
     ensures any_moment { (layout : Layout) (S : Standing)
-        → IsReadyFor (catalog_in machine.old) (site_in machine.old) (tables_in machine.old) S event.now ready
+        → IsReadyFor (catalog_in machine.old) (site_in machine.old) (tables_in machine.old) S event.now ready.old
         → IsKept layout S book.old
         → LeavesOnly D.moment D.left_since (disk_of book.old) (disk_of book.new)
         (MayHaveNext (catalog_in machine.old) layout (site_in machine.old) S event.now None) }
-    ensures outcome { IsOutcomeOf event.now ready (left_of book.old) result.0.outcome }
+    ensures outcome { IsOutcomeOf event.now ready.old (left_of book.old) result.0.outcome }
     ensures up { is_up machine.new ≡ up_after event.now result.0.outcome (is_up machine.old) }
-    ensures sent { (came_in ready).sends ≡ [] → result.0.sends ≡ [] }
-    ensures wrote { result.0.outcome ≡ outcome.Taken → result.0.wrote ≡ rec_in ready }
-    ensures untouched { rec_in ready ≡ None → disk_of book.new ≡ disk_of book.old }
+    ensures sent { (came_in ready.old).sends ≡ [] → result.0.sends ≡ [] }
+    ensures wrote { result.0.outcome ≡ outcome.Taken → result.0.wrote ≡ rec_in ready.old }
+    ensures untouched { rec_in ready.old ≡ None → disk_of book.new ≡ disk_of book.old }
     ensures sized { IsSized (catalog_in machine.old).sites result.0 }
     ensures framed { result.1.items ≡ map (λ s. frame_of (catalog_in machine.old).sites s.1) result.0.sends }
     ensures none_dropped { result.0.dropped ≡ 0 }

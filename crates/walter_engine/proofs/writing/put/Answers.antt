@@ -28,10 +28,10 @@ use Rattle.walter_tables.specs.declared.tables.Tables.{Tables}
 pub returns-in_default : goal.returns-in_default
 returns-in_default g c =
     let came = c.keep.ensures.came in
-    let free = spelling_none {g = g.D.Disk} c.args.book.now (rec_in c.args.ready) c.args.body c.requires.spelled c.in_default.is in
+    let free = spelling_none {g = g.D.Disk} c.args.book.now (rec_in c.args.ready.now) c.args.body c.requires.spelled c.in_default.is in
     record {
       comes = λ layout S standing counted ready_for spelled kept.
-          c.keep.ensures.comes layout S ready_for (holds_none (FitsIn layout S) (rec_in c.args.ready) free);
+          c.keep.ensures.comes layout S ready_for (holds_none (FitsIn layout S) (rec_in c.args.ready.now) free);
       leaves = λ layout S standing counted ready_for spelled kept.
           leaves_kept {g = g.D.Disk} g.met.D.Disk.size_is (catalog_in c.args.machine.now) layout (site_in c.args.machine.now) S c.args.event.now spelled c.keep.new.self c.keep.ensures.same.catalog
           c.keep.result.0 (c.keep.ensures.stands S standing counted ready_for) c.args.book.now kept
@@ -62,34 +62,34 @@ returns-in_default g c =
 -- its record is appended
 pub append-requires-clause-short : goal.append-requires-clause-short
 append-requires-clause-short g c =
-    let s = spelling_some {g = g.D.Disk} c.args.book.now (rec_in c.args.ready) c.args.body c.in-Some.body c.requires.spelled c.in-Some.is in
-    let can = some_is CanBeRecorded (rec_in c.args.ready) s.0 s.1 c.requires.anyway.ready_for.sized.wrote in
+    let s = spelling_some {g = g.D.Disk} c.args.book.now (rec_in c.args.ready.now) c.args.body c.in-Some.body c.requires.spelled c.in-Some.is in
+    let can = some_is CanBeRecorded (rec_in c.args.ready.now) s.0 s.1 c.requires.anyway.ready_for.sized.wrote in
     let is = c.as_slice.ensures ∙ s.2.is in
     subst (λ (b : List ℕ). length b ≤ 65536) (sym is) (short_enough s.0 can)
 
 pub append-requires-clause-room : goal.append-requires-clause-room
 append-requires-clause-room g c =
-    let s = spelling_some {g = g.D.Disk} c.args.book.now (rec_in c.args.ready) c.args.body c.in-Some.body c.requires.spelled c.in-Some.is in
+    let s = spelling_some {g = g.D.Disk} c.args.book.now (rec_in c.args.ready.now) c.args.body c.in-Some.body c.requires.spelled c.in-Some.is in
     subst (λ (b : List ℕ). HasRoom {g = g.D.Disk} c.args.book.now (length b)) (sym c.as_slice.ensures) s.2.room
 
 pub returns-in-Ok : goal.returns-in-Ok
 returns-in-Ok g c =
-    let s = spelling_some {g = g.D.Disk} c.args.book.now (rec_in c.args.ready) c.args.body c.in-Some.body c.requires.spelled c.in-Some.is in
-    let can = some_is CanBeRecorded (rec_in c.args.ready) s.0 s.1 c.requires.anyway.ready_for.sized.wrote in
+    let s = spelling_some {g = g.D.Disk} c.args.book.now (rec_in c.args.ready.now) c.args.body c.in-Some.body c.requires.spelled c.in-Some.is in
+    let can = some_is CanBeRecorded (rec_in c.args.ready.now) s.0 s.1 c.requires.anyway.ready_for.sized.wrote in
     let is = c.as_slice.ensures ∙ s.2.is in
     let came = c.keep-in-Ok.ensures.came in
     record {
       comes = λ layout S standing counted ready_for spelled kept.
-          c.keep-in-Ok.ensures.comes layout S ready_for (fits_here (catalog_in c.args.machine.now) (site_in c.args.machine.now) (tables_in c.args.machine.now) S c.args.event.now c.args.ready ready_for s.0 s.1 {g = g.D.Disk} layout c.args.book.now kept can c.as_slice.result.now is c.in-Ok.ensures.ok.fits);
+          c.keep-in-Ok.ensures.comes layout S ready_for (fits_here (catalog_in c.args.machine.now) (site_in c.args.machine.now) (tables_in c.args.machine.now) S c.args.event.now c.args.ready.now ready_for s.0 s.1 {g = g.D.Disk} layout c.args.book.now kept can c.as_slice.result.now is c.in-Ok.ensures.ok.fits);
       leaves = λ layout S standing counted ready_for spelled kept.
           leaves_more {g = g.D.Disk} g.met.D.Disk.size_is (catalog_in c.args.machine.now) layout (site_in c.args.machine.now) S c.args.event.now spelled c.keep-in-Ok.new.self c.keep-in-Ok.ensures.same.catalog
           c.keep-in-Ok.result.0 (c.keep-in-Ok.ensures.stands S standing counted ready_for) c.append.new.self c.args.book.now s.0 c.as_slice.result.now
-          kept is (has (catalog_in c.args.machine.now) (site_in c.args.machine.now) (tables_in c.args.machine.now) S c.args.event.now c.args.ready ready_for s.0 s.1 s.2.ranges) c.in-Ok.ensures.ok c.append.ensures.shape c.append.ensures.live
-          (brings (catalog_in c.args.machine.now) (site_in c.args.machine.now) (tables_in c.args.machine.now) S c.args.event.now c.args.ready ready_for s.0 s.1)
+          kept is (has (catalog_in c.args.machine.now) (site_in c.args.machine.now) (tables_in c.args.machine.now) S c.args.event.now c.args.ready.now ready_for s.0 s.1 s.2.ranges) c.in-Ok.ensures.ok c.append.ensures.shape c.append.ensures.live
+          (brings (catalog_in c.args.machine.now) (site_in c.args.machine.now) (tables_in c.args.machine.now) S c.args.event.now c.args.ready.now ready_for s.0 s.1)
           (ap (λ (x : Came). x.wrote) came ∙ s.1) (ap (λ (x : Came). x.flight) came);
       any_moment = λ layout S ready_for kept.
           appends_next {g = g.D.Disk} (catalog_in c.args.machine.now) layout (site_in c.args.machine.now) S c.args.event.now c.args.book.now kept.laid kept.stands (disk_of c.append.new.self) s.0 c.as_slice.result.now
-          (brings (catalog_in c.args.machine.now) (site_in c.args.machine.now) (tables_in c.args.machine.now) S c.args.event.now c.args.ready ready_for s.0 s.1) is (c.append.ensures.any_moment _ kept.stands);
+          (brings (catalog_in c.args.machine.now) (site_in c.args.machine.now) (tables_in c.args.machine.now) S c.args.event.now c.args.ready.now ready_for s.0 s.1) is (c.append.ensures.any_moment _ kept.stands);
       outcome = inl (ap (λ (x : Came). x.outcome) came);
       up = c.keep-in-Ok.ensures.up;
       sent = λ none. ap (λ (x : Came). x.sends) came ∙ none;
@@ -113,27 +113,27 @@ returns-in-Ok g c =
 -- it meets a fault
 pub fail-requires-clause-flies : goal.fail-requires-clause-flies
 fail-requires-clause-flies g c =
-    let s = spelling_some {g = g.D.Disk} c.args.book.now (rec_in c.args.ready) c.args.body c.in-Some.body c.requires.spelled c.in-Some.is in
+    let s = spelling_some {g = g.D.Disk} c.args.book.now (rec_in c.args.ready.now) c.args.body c.in-Some.body c.requires.spelled c.in-Some.is in
     ap is_some s.1
 
 pub returns-in-Err-Failed : goal.returns-in-Err-Failed
 returns-in-Err-Failed g c =
-    let s = spelling_some {g = g.D.Disk} c.args.book.now (rec_in c.args.ready) c.args.body c.in-Some.body c.requires.spelled c.in-Some.is in
-    let can = some_is CanBeRecorded (rec_in c.args.ready) s.0 s.1 c.requires.anyway.ready_for.sized.wrote in
+    let s = spelling_some {g = g.D.Disk} c.args.book.now (rec_in c.args.ready.now) c.args.body c.in-Some.body c.requires.spelled c.in-Some.is in
+    let can = some_is CanBeRecorded (rec_in c.args.ready.now) s.0 s.1 c.requires.anyway.ready_for.sized.wrote in
     let is = c.as_slice.ensures ∙ s.2.is in
-    let came = some_is (λ rec. c.fail.result ≡ record (only (failure c.args.event.now rec)) { flight = Some rec }) (rec_in c.args.ready) s.0 s.1 c.fail.ensures.came in
+    let came = some_is (λ rec. c.fail.result ≡ record (only (failure c.args.event.now rec)) { flight = Some rec }) (rec_in c.args.ready.now) s.0 s.1 c.fail.ensures.came in
     let failed = failed_is c.append.result (need_of c.as_slice.result.now) (left_of c.args.book.now) _ _ c.append.ensures.full c.append.ensures.failed c.in-Err-Failed.field-0 c.in-Err-Failed.is c.in-Err-Failed.field-0-is in
     record {
-      comes = λ layout S standing counted ready_for spelled kept. c.fail.ensures.comes layout S ready_for (fits_here (catalog_in c.args.machine.now) (site_in c.args.machine.now) (tables_in c.args.machine.now) S c.args.event.now c.args.ready ready_for s.0 s.1 {g = g.D.Disk} layout c.args.book.now kept can c.as_slice.result.now is failed.0);
+      comes = λ layout S standing counted ready_for spelled kept. c.fail.ensures.comes layout S ready_for (fits_here (catalog_in c.args.machine.now) (site_in c.args.machine.now) (tables_in c.args.machine.now) S c.args.event.now c.args.ready.now ready_for s.0 s.1 {g = g.D.Disk} layout c.args.book.now kept can c.as_slice.result.now is failed.0);
       leaves = λ layout S standing counted ready_for spelled kept.
           leaves_flying {g = g.D.Disk} g.met.D.Disk.size_is (catalog_in c.args.machine.now) layout (site_in c.args.machine.now) S c.args.event.now spelled c.fail.new.self c.fail.ensures.same.catalog
           c.fail.result (c.fail.ensures.stands S standing counted ready_for) c.append.new.self c.args.book.now s.0 c.as_slice.result.now
-          kept is (has (catalog_in c.args.machine.now) (site_in c.args.machine.now) (tables_in c.args.machine.now) S c.args.event.now c.args.ready ready_for s.0 s.1 s.2.ranges) g.met.D.Disk.counts_now failed.1
+          kept is (has (catalog_in c.args.machine.now) (site_in c.args.machine.now) (tables_in c.args.machine.now) S c.args.event.now c.args.ready.now ready_for s.0 s.1 s.2.ranges) g.met.D.Disk.counts_now failed.1
           (c.append.ensures.any_moment _ kept.stands) c.fail.ensures.down
           (ap (λ (x : Came). x.wrote) came) (ap (λ (x : Came). x.flight) came);
       any_moment = λ layout S ready_for kept.
           appends_next {g = g.D.Disk} (catalog_in c.args.machine.now) layout (site_in c.args.machine.now) S c.args.event.now c.args.book.now kept.laid kept.stands (disk_of c.append.new.self) s.0 c.as_slice.result.now
-          (brings (catalog_in c.args.machine.now) (site_in c.args.machine.now) (tables_in c.args.machine.now) S c.args.event.now c.args.ready ready_for s.0 s.1) is (c.append.ensures.any_moment _ kept.stands);
+          (brings (catalog_in c.args.machine.now) (site_in c.args.machine.now) (tables_in c.args.machine.now) S c.args.event.now c.args.ready.now ready_for s.0 s.1) is (c.append.ensures.any_moment _ kept.stands);
       outcome = inr (inr (inl (s.0, ap (λ (x : Came). x.outcome) came)));
       up = ap is_some c.fail.ensures.down
           ∙ sym (ap (λ (x : Came). up_after c.args.event.now x.outcome (is_up c.args.machine.now)) came ∙ (failure_is c.args.event.now s.0).3 (is_up c.args.machine.now));
@@ -159,20 +159,20 @@ returns-in-Err-Failed g c =
 -- it finds no place
 pub overflow-requires : goal.overflow-requires
 overflow-requires g c =
-    let s = spelling_some {g = g.D.Disk} c.args.book.now (rec_in c.args.ready) c.args.body c.in-Some.body c.requires.spelled c.in-Some.is in
-    let some : IsSome (rec_in c.args.ready) = ap is_some s.1 in
+    let s = spelling_some {g = g.D.Disk} c.args.book.now (rec_in c.args.ready.now) c.args.body c.in-Some.body c.requires.spelled c.in-Some.is in
+    let some : IsSome (rec_in c.args.ready.now) = ap is_some s.1 in
     search rules
 
 pub returns : goal.returns
 returns g c =
-    let s = spelling_some {g = g.D.Disk} c.args.book.now (rec_in c.args.ready) c.args.body c.in-Some.body c.requires.spelled c.in-Some.is in
-    let can = some_is CanBeRecorded (rec_in c.args.ready) s.0 s.1 c.requires.anyway.ready_for.sized.wrote in
+    let s = spelling_some {g = g.D.Disk} c.args.book.now (rec_in c.args.ready.now) c.args.body c.in-Some.body c.requires.spelled c.in-Some.is in
+    let can = some_is CanBeRecorded (rec_in c.args.ready.now) s.0 s.1 c.requires.anyway.ready_for.sized.wrote in
     let is = c.as_slice.ensures ∙ s.2.is in
     let full = full_is c.append.result (need_of c.as_slice.result.now) (left_of c.args.book.now) _ _ c.append.ensures.full c.append.ensures.failed c.in-Err-Full.field-0 c.in-Err-Full.need c.in-Err-Full.left c.in-Err-Full.is c.in-Err-Full.field-0-is in
     let came = c.overflow.ensures.came in
     record {
       comes = λ layout S standing counted ready_for spelled kept.
-          c.overflow.ensures.comes layout S ready_for (lacks_here (catalog_in c.args.machine.now) (site_in c.args.machine.now) (tables_in c.args.machine.now) S c.args.event.now c.args.ready ready_for s.0 s.1 {g = g.D.Disk} layout c.args.book.now c.in-Err-Full.need c.in-Err-Full.left
+          c.overflow.ensures.comes layout S ready_for (lacks_here (catalog_in c.args.machine.now) (site_in c.args.machine.now) (tables_in c.args.machine.now) S c.args.event.now c.args.ready.now ready_for s.0 s.1 {g = g.D.Disk} layout c.args.book.now c.in-Err-Full.need c.in-Err-Full.left
           kept can c.as_slice.result.now is full.0 full.1 full.2);
       leaves = λ layout S standing counted ready_for spelled kept.
           leaves_kept {g = g.D.Disk} g.met.D.Disk.size_is (catalog_in c.args.machine.now) layout (site_in c.args.machine.now) S c.args.event.now spelled c.overflow.new.self c.overflow.ensures.same.catalog
@@ -183,7 +183,7 @@ returns g c =
           (ap (λ (x : Came). x.wrote) came) (ap (λ (x : Came). x.flight) came);
       any_moment = λ layout S ready_for kept.
           appends_next {g = g.D.Disk} (catalog_in c.args.machine.now) layout (site_in c.args.machine.now) S c.args.event.now c.args.book.now kept.laid kept.stands (disk_of c.append.new.self) s.0 c.as_slice.result.now
-          (brings (catalog_in c.args.machine.now) (site_in c.args.machine.now) (tables_in c.args.machine.now) S c.args.event.now c.args.ready ready_for s.0 s.1) is (c.append.ensures.any_moment _ kept.stands);
+          (brings (catalog_in c.args.machine.now) (site_in c.args.machine.now) (tables_in c.args.machine.now) S c.args.event.now c.args.ready.now ready_for s.0 s.1) is (c.append.ensures.any_moment _ kept.stands);
       outcome = inr (inr (inr (record {
         rec = s.0;
         need = c.in-Err-Full.need;

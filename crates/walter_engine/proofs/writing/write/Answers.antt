@@ -36,7 +36,7 @@ returns-in-Ok g c =
           (MayHaveNext (catalog_in c.args.machine.now) layout (site_in c.args.machine.now) S c.args.event.now None)
           (stays_next {g = g.D.Disk} (catalog_in c.args.machine.now) layout (site_in c.args.machine.now) S c.args.event.now c.args.book.now kept.laid kept.stands c.spell_any.new.book same)
           (put.any_moment layout S ready_for (same_kept layout S _ _ same kept));
-      outcome = subst (λ left. IsOutcomeOf c.args.event.now c.args.ready left c.put.result.0.outcome) (same_left _ _ same) put.outcome;
+      outcome = subst (λ left. IsOutcomeOf c.args.event.now c.args.ready.now left c.put.result.0.outcome) (same_left _ _ same) put.outcome;
       up = put.up;
       sent = put.sent;
       wrote = put.wrote;
@@ -60,10 +60,10 @@ returns-in-Err g c =
     let same = c.spell_any.ensures.same in
     record {
       comes = λ layout S standing counted ready_for spelled kept.
-          c.want.ensures.comes layout S (takes_memory (rec_in c.args.ready) _ c.in-Err.ensures.free ready_for.takes);
+          c.want.ensures.comes layout S (takes_memory (rec_in c.args.ready.now) _ c.in-Err.ensures.free ready_for.takes);
       leaves = λ layout S standing counted ready_for spelled kept.
           leaves_kept {g = g.D.Disk} g.met.D.Disk.size_is (catalog_in c.args.machine.now) layout (site_in c.args.machine.now) S c.args.event.now spelled c.args.machine.now refl
-          c.want.result (c.want.ensures.stands S standing (takes_memory (rec_in c.args.ready) _ c.in-Err.ensures.free ready_for.takes)) c.spell_any.new.book (same_kept layout S _ _ same kept)
+          c.want.result (c.want.ensures.stands S standing (takes_memory (rec_in c.args.ready.now) _ c.in-Err.ensures.free ready_for.takes)) c.spell_any.new.book (same_kept layout S _ _ same kept)
           (ups_same (catalog_in c.args.machine.now) (site_in c.args.machine.now) S c.args.event.now c.want.result (want c.args.event.now) (ap (λ (x : Came). x.outcome) came) ((want_is c.args.event.now).3 S.up))
           (ap (λ (x : Came). x.wrote) came) (ap (λ (x : Came). x.flight) came);
       any_moment = λ layout S ready_for kept.

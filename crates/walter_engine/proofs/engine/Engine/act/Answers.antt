@@ -94,9 +94,9 @@ returns g c =
                 let standing = c.prepare.ensures.stands S stands.machine in
                 let stored = subst (λ o. IsStored {g = g.D.Disk} layout S o c.args.self.now.disk) was stands.stored in
                 let spelled = subst (λ (x : Catalog). AreSpelled x.sites S) (sym c.prepare.ensures.same.catalog) stands.spelled in
-                let ready_for = (same_parts (λ x k. IsReadyFor x k (tables_in c.prepare.new.self) S c.args.event.now c.in-Ok.ready) (catalog_in c.args.self.now.machine) (catalog_in c.prepare.new.self) (site_in c.args.self.now.machine) (site_in c.prepare.new.self) c.prepare.ensures.same.catalog c.prepare.ensures.same.id
+                let ready_for = (same_parts (λ x k. IsReadyFor x k (tables_in c.prepare.new.self) S c.args.event.now c.prepare.new.ready) (catalog_in c.args.self.now.machine) (catalog_in c.prepare.new.self) (site_in c.args.self.now.machine) (site_in c.prepare.new.self) c.prepare.ensures.same.catalog c.prepare.ensures.same.id
                 (c.in-Ok.ensures.ready S stands.machine)) in
-                let counted = counted_up c.prepare.new.self S (rec_in c.in-Ok.ready) (up ∙ c.requires.up) standing in
+                let counted = counted_up c.prepare.new.self S (rec_in c.prepare.new.ready) (up ∙ c.requires.up) standing in
                 let book_is = c.close_unless.ensures.book ∙ ap (λ (b : Bool). book_if b c.write-came.new.book) c.is_up.ensures in
                 let disk_is = c.close_unless.ensures.bare ∙ ap (λ (b : Bool). disk_if {g = g.D.Disk} b c.write-came.new.book) c.is_up.ensures in
                 let comes = same_parts (λ x k. Comes x layout k S c.args.event.now c.write-came.result.0) (catalog_in c.prepare.new.self) (catalog_in c.args.self.now.machine) (site_in c.prepare.new.self) (site_in c.args.self.now.machine) (sym c.prepare.ensures.same.catalog) (sym c.prepare.ensures.same.id)
@@ -107,7 +107,7 @@ returns g c =
                 (λ down restart. absurd (let e = sym (up ∙ c.requires.up) ∙ down in cc)) comes
                 (stands_left {g = g.D.Disk} _ _ c.write-came.new.book layout same_layout left book_is disk_is);
             any_moment = λ S stands.
-                let ready_for = (same_parts (λ x k. IsReadyFor x k (tables_in c.prepare.new.self) S c.args.event.now c.in-Ok.ready) (catalog_in c.args.self.now.machine) (catalog_in c.prepare.new.self) (site_in c.args.self.now.machine) (site_in c.prepare.new.self) c.prepare.ensures.same.catalog c.prepare.ensures.same.id
+                let ready_for = (same_parts (λ x k. IsReadyFor x k (tables_in c.prepare.new.self) S c.args.event.now c.prepare.new.ready) (catalog_in c.args.self.now.machine) (catalog_in c.prepare.new.self) (site_in c.args.self.now.machine) (site_in c.prepare.new.self) c.prepare.ensures.same.catalog c.prepare.ensures.same.id
                 (c.in-Ok.ensures.ready S stands.machine)) in
                 rw (before, c.close_unless.ensures.same)
                 (same_parts (λ x k. LeavesOnly g.D.Disk.moment g.D.Disk.left_since (disk_of c.in-Some.book) (disk_of c.write-came.new.book) (MayHaveNext x layout k S c.args.event.now c.write-came.result.0.kept))
@@ -118,7 +118,7 @@ returns g c =
                 (disk_under c.close_unless.new.book c.close_unless.new.disk)
                 (λ d. always (λ (bytes : List ℕ). Unit {0}) (g.D.Disk.known d).reads (λ bytes. tt));
             why = λ refused. absurd (let e = sym (ap is_refusal refused)
-                ∙ unrefused _ _ _ c.args.event.now c.in-Ok.ready _ _ c.in-Ok.ensures.anyway c.write-came.ensures.outcome in cc);
+                ∙ unrefused _ _ _ c.args.event.now c.prepare.new.ready _ _ c.in-Ok.ensures.anyway c.write-came.ensures.outcome in cc);
             sized = subst (λ (x : Catalog). IsSized x.sites c.write-came.result.0) c.prepare.ensures.same.catalog c.write-came.ensures.sized;
             framed = subst (λ (x : Catalog). c.write-came.result.1.items ≡ map (λ (s : Send). frame_of x.sites s.1) c.write-came.result.0.sends)
                 c.prepare.ensures.same.catalog c.write-came.ensures.framed;
