@@ -69,7 +69,8 @@ impl Seat {
         ensures entries { self.new.entries ≡ self.old.entries }
     {
         if self.machine.is_up() {
-            let ready = self.machine.prepare(event)?;
+            let mut ready = Ready::none(alloc);
+            self.machine.prepare(event, &mut ready)?;
             return Ok(come(&mut self.machine, event, ready, fate));
         }
         match event {
@@ -135,7 +136,7 @@ fn boot(alloc: Global, tables: Tables) -> Mem<Ready>
 }
 
 // What comes of the event that this is ready for: its record is stable, or it meets a fault.
-fn come(machine: &mut Machine, event: &Event, ready: Ready, fate: Fate) -> Came
+fn come(machine: &mut Machine, event: &Event, mut ready: Ready, fate: Fate) -> Came
     requires room { is_up machine.old ≡ false → HasRoom machine.old }
     requires countable { IsCountable machine.old ready }
     requires anyway { IsReadyAnyway (catalog_in machine.old) (site_in machine.old) (tables_in machine.old) event.now
@@ -145,9 +146,9 @@ fn come(machine: &mut Machine, event: &Event, ready: Ready, fate: Fate) -> Came
         → HasCome (catalog_in machine.old) (site_in machine.old) S event.now None fate result machine.new }
 {
     if breaks(fate, &ready) {
-        return machine.fail(event, ready);
+        return machine.fail(event, &mut ready);
     }
-    machine.keep(event, ready).0
+    machine.keep(event, &mut ready).0
 }
 
 // Whether there is a record that meets a fault.

@@ -133,7 +133,7 @@ fn is_within(sites: u8, what: &What) -> bool
     ensures { IsTrue result ↔ IsWithin sites what.now }
 {
     match what {
-        What::Call { body, .. } => body.len() <= LONGEST_BODY,
+        What::Call { body, .. } => body.as_slice().len() <= LONGEST_BODY,
         What::Deliver { from, .. } | What::Advance { from } => from.0 < sites,
         What::Tick | What::Stop | What::Restart { .. } => true,
     }

@@ -14,8 +14,8 @@ use Rattle.walter_world.proofs.seat.Seat.came_of.Goals as goal
 
 -- ---- at a site that is up
 
-pub returns-in_err-ready-clause-left : goal.returns-in_err-ready-clause-left
-returns-in_err-ready-clause-left c =
+pub returns-in_err-prepare-clause-left : goal.returns-in_err-prepare-clause-left
+returns-in_err-prepare-clause-left c =
     let seat = c.args.self.now in
     where_err _ (seat_still (catalog_in seat.machine) (site_in seat.machine) seat (record seat { machine = c.prepare.new.self })
     c.requires.seat_is c.prepare.ensures.same c.prepare.ensures.stands refl)
@@ -23,11 +23,11 @@ returns-in_err-ready-clause-left c =
 pub come-requires : goal.come-requires
 come-requires c = record {
   room = λ down. absurd (let e = sym c.prepare.ensures.up ∙ down in cc);
-  countable = c.in_ok-ready.ensures.countable;
+  countable = c.in_ok-prepare.ensures.countable;
   anyway = at_new c.args.self.now.machine c.prepare.new.self
       (λ (k : Catalog). λ (i : SiteId).
-      IsReadyAnyway k i (tables_in c.prepare.new.self) c.args.event.now c.in_ok-ready.ready)
-      c.prepare.ensures.same c.in_ok-ready.ensures.anyway;
+      IsReadyAnyway k i (tables_in c.prepare.new.self) c.args.event.now c.prepare.new.ready)
+      c.prepare.ensures.same c.in_ok-prepare.ensures.anyway;
 }
 
 pub returns-then-is_up-clause-comes : goal.returns-then-is_up-clause-comes
@@ -36,8 +36,8 @@ returns-then-is_up-clause-comes c =
     let S = standing_of seat in
     let stands = c.requires.seat_is.stands in
     given seat c.prepare.new.self c.come.new.machine c.args.event.now c.args.keeps c.args.fate
-    c.in_ok-ready.ready c.come.result c.requires.seat_is (sym c.is_up.ensures ∙ c.if-is_up.true) c.prepare.ensures.same
-    (c.prepare.ensures.stands S stands) (c.in_ok-ready.ensures.ready S stands) c.come.ensures
+    c.prepare.new.ready c.come.result c.requires.seat_is (sym c.is_up.ensures ∙ c.if-is_up.true) c.prepare.ensures.same
+    (c.prepare.ensures.stands S stands) (c.in_ok-prepare.ensures.ready S stands) c.come.ensures
 
 -- ---- at one that is down
 
