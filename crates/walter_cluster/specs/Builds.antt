@@ -74,4 +74,4 @@ module _ {D : Type 0} where
 pub record GivesBack {D S K : Type 0} (cells : List (CellValue D)) (closed : Closed D S K) : Type 0 where
   pub trails : closed.trails.items ≡ trails_of cells
   pub disks : map (λ (d : D). Some d) closed.disks.items ≡ disks_of cells
-  pub lines : map (λ r. r.lines.items) closed.remains.items ≡ map (λ (c : CellValue D). c.lines) cells
+  pub lines : closed.remains.items ≡ map (λ (c : CellValue D). c.lines) cells

@@ -4,9 +4,8 @@ ghost use Rattle.walter_scenario.specs.declared.scenario.Client.{Client};
 
 use anyhow::{Result, bail};
 use std::alloc::Global;
-use std::mem;
 use std::sync::ArcSlice;
-use walter_cell::{Line, Remains};
+use walter_cell::Line;
 use walter_cluster::{Bench, Closed, build};
 use walter_conn::Conn;
 use walter_disk_memory::MemoryDisk;
@@ -110,16 +109,6 @@ fn push_outcomes(alloc: Global, said: &mut String, trails: &[Trail]) -> Result<(
     Ok(())
 }
 
-// The connections that remain of a cell. What its site knew is forgotten.
-fn lines_of(
-    alloc: Global,
-    mut remains: Remains<MemorySource, MemorySink>,
-) -> Vec<Option<MemoryLine>> {
-    let lines = mem::replace(&mut remains.lines, Vec::new(alloc));
-    mem::forget(remains);
-    lines
-}
-
 /// What the turns of the two clients of a scenario come to, what their sinks hold then, and what the trails say. The
 /// source of the first client fails at these reads.
 pub(crate) fn answers_and_held(alloc: Global, failing: Vec<u64>, text: &str) -> Result<String> {
@@ -140,7 +129,7 @@ pub(crate) fn answers_and_held(alloc: Global, failing: Vec<u64>, text: &str) -> 
         ..
     } = bench.close();
     for remains in remains {
-        push_held(alloc, &mut said, lines_of(alloc, remains))?;
+        push_held(alloc, &mut said, remains.into_lines())?;
     }
     push_outcomes(alloc, &mut said, &trails)?;
     Ok(said)

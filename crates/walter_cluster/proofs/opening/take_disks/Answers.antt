@@ -20,27 +20,3 @@ returns-clause-disks g c =
     let is = c.loop-cell.invariant in
     let end = YieldsList-end (YieldsList-from_vec cells (search rules) (search rules)) c.loop-cell.yielded c.loop-cell.cell-iterator c.loop-cell.yielded_by c.next.result c.next.new.self c.in-None.is c.next.ensures.steps in
     is.disks ∙ ap (λ cs. map (λ d. Some d) c.args.back.now.items ++ disks_of cs) (sym (map-id c.loop-cell.yielded) ∙ end.0)
-
--- what the site knew is let go as it was
-pub invariant_of-into_parts-in-loop-cell : goal.invariant_of-into_parts-in-loop-cell
-invariant_of-into_parts-in-loop-cell g c =
-    let t = c.drop-in-loop-cell-2.inside.tables in
-    record {
-      here = t.here;
-      most = t.most;
-      log_site = t.log_site;
-      log_sites = t.log_sites;
-      spread_site = t.spread_site;
-      spread_window = t.spread_window;
-      spread_sites = t.spread_sites;
-      spread_committed = t.spread_committed;
-      spread_durable = t.spread_durable;
-      durable_site = t.durable_site;
-      durable_sites = t.durable_sites;
-      tolerated = t.tolerated;
-      dead = t.dead;
-      ahead = t.ahead;
-      folded = t.folded;
-      snapshots = t.snapshots;
-      «open» = t.«open»;
-    }

@@ -29,7 +29,7 @@ pub loop-cell-init : goal.loop-cell-init
 loop-cell-init g c = record {
   trails = c.self.invariant.1.none;
   disks = ap (λ ds. map (λ d. Some d) ds) c.self.invariant.2.none;
-  lines = ap (λ rs. map (λ r. r.lines.items) rs) c.self.invariant.3.none;
+  lines = c.self.invariant.3.none;
   sound = All-nil (λ (c : CellValue g.row.D.Denot). IsSound g.D.Disk c.node × IsCell c);
   for_trails = refl;
   for_disks = refl;
@@ -76,7 +76,7 @@ push_reserved-requires-in-loop-cell-2 g c =
     let turn = YieldsList-turn yields c.loop-cell.yielded c.loop-cell.cell-iterator c.loop-cell.yielded_by c.next.result c.next.new.self c.in-Some.cell c.in-Some.is c.next.ensures.steps in
     let is = c.loop-cell.invariant in
     let long = ap length same in
-    omega (arith, turn.0, long, ap length is.lines, length-map c.loop-cell.closed.remains.items (λ r. r.lines.items), length-map c.loop-cell.yielded (λ (c : CellValue g.row.D.Denot). c.lines), is.for_remains, c.self.invariant.3.room, c.loop-cell.closed.remains.ok.0)
+    omega (arith, turn.0, long, ap length is.lines, length-map c.loop-cell.yielded (λ (c : CellValue g.row.D.Denot). c.lines), is.for_remains, c.self.invariant.3.room, c.loop-cell.closed.remains.ok.0)
 
 pub loop-cell-preserved : goal.loop-cell-preserved
 loop-cell-preserved g c =
@@ -87,7 +87,7 @@ loop-cell-preserved g c =
     let third = c.push_reserved-in-loop-cell-2.ensures in record {
       trails = map_pushed (λ (c : CellValue g.row.D.Denot). c.node.trail) c.loop-cell.closed.trails.items c.push_reserved.new.self.items c.into_parts-disk.result.1 c.loop-cell.yielded c.in-Some.cell first.items is.trails parts.trail;
       disks = maps_pushed (λ d. Some d) (λ (c : CellValue g.row.D.Denot). c.node.disk) c.loop-cell.closed.disks.items c.push_reserved-in-loop-cell.new.self.items c.into_parts-disk.result.0 c.loop-cell.yielded c.in-Some.cell second.items is.disks parts.disk;
-      lines = maps_pushed (λ r. r.lines.items) (λ (c : CellValue g.row.D.Denot). c.lines) c.loop-cell.closed.remains.items c.push_reserved-in-loop-cell-2.new.self.items c.into_parts-disk.result.2 c.loop-cell.yielded c.in-Some.cell third.items is.lines parts.lines;
+      lines = map_pushed (λ (c : CellValue g.row.D.Denot). c.lines) c.loop-cell.closed.remains.items c.push_reserved-in-loop-cell-2.new.self.items c.into_parts-disk.result.2 c.loop-cell.yielded c.in-Some.cell third.items is.lines parts.lines;
       sound = All-push (λ (c : CellValue g.row.D.Denot). IsSound g.D.Disk c.node × IsCell c) c.loop-cell.yielded c.in-Some.cell is.sound (parts.sound, parts.cell);
       for_trails = first.capacity ∙ is.for_trails;
       for_disks = second.capacity ∙ is.for_disks;
