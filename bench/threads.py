@@ -33,6 +33,8 @@ from measured import events_of
 
 SITES, RUNS, TRANSACTIONS = (1, 2, 4), 5, 16_000
 TICKS = 1
+# Each trail has its memory from the start: all threads wait where the system makes a long one longer.
+ROOM = 100_000
 # No run takes less, however the times of two runs differ.
 LEAST = 0.001
 # How many pumps of each other site follow a transaction of each client: those of five packets and of the commit.
@@ -46,7 +48,7 @@ def scenario(sites, transactions, steps=()):
     clients = [[site, "".join(START + write(site + 1, number) + COMMIT for number in range(transactions))]
                for site in range(sites)]
     return {"sites": sites, "f": 0, "containers": [[site + 1, "regular", site] for site in range(sites)],
-            "clients": clients, "threads": sites, "ticks": TICKS, "steps": list(steps)}
+            "clients": clients, "threads": sites, "ticks": TICKS, "room": ROOM, "steps": list(steps)}
 
 
 def steps_of(sites, transactions):
