@@ -1,9 +1,10 @@
 -- A site with its trail and its lanes, behind one more entry.
-use Rattle.std.proofs.Common.{◌≡◌, ◌<◌, ◌≤◌, ◌+◌, ◌^◌, ℕ, List, [], ◌∷◌, ◌++◌, length, take, drop, reverse, Bool, true, false, Option, Some, None, is_some, refl, ap, sym, ◌∙◌, subst, arith, slice_get, if◌then◌else◌, inl, inr}
+use Rattle.std.proofs.Common.{◌≡◌, ◌<◌, ◌≤◌, ◌+◌, ◌-◌, ◌^◌, ℕ, List, [], ◌∷◌, ◌++◌, length, get_or, set, take, drop, reverse, Bool, true, false, Option, Some, None, is_some, refl, ap, sym, ◌∙◌, subst, arith, slice_get, if◌then◌else◌, inl, inr}
 use Rattle.std.specs.Prelude.{All, IfSome, count_by}
 use Rattle.std.proofs.lemmas.List.Sums.{fold-append}
-use Rattle.std.proofs.lemmas.List.{reverse-append, append-nil, take_all, drop_all}
+use Rattle.std.proofs.lemmas.List.{length-append, reverse-append, append-nil, take_all, drop_all}
 use Rattle.std.proofs.lemmas.List.Elements.{All-push}
+use Rattle.std.proofs.Math.Seq.{get_or-append_seam, set-append_seam}
 use Rattle.walter_base.specs.declared.catalog.Catalog.{Catalog}
 use Rattle.walter_base.specs.declared.message.Record.{Record}
 use Rattle.walter_base.specs.declared.names.SiteId.{SiteId}
@@ -40,6 +41,24 @@ pub all_back : {X : Type 0} (len : ℕ) (new old : List X) → len ≡ length ol
 all_back len new old is long =
     ap (λ rest. take len (new ++ rest)) (drop_all (length new) old (omega (arith, long)))
     ∙ (ap (λ l. take len l) (append-nil new) ∙ take_all len new (omega (arith, is, long)))
+
+module _ {X : Type 0} (xs ys : List X) (x : X) where
+  at_end : ys ≡ xs ++ x ∷ [] → length ys - 1 ≡ length xs
+  at_end pushed =
+      let long : length ys ≡ length xs + 1 = ap length pushed ∙ length-append xs (x ∷ []) in
+      omega (arith, long)
+
+  -- the last element is the one that was put behind the others
+  pub last_pushed : (y : X) (len : ℕ) → ys ≡ xs ++ x ∷ [] → len ≡ length ys → y ≡ get_or ys (len - 1) y → y ≡ x
+  last_pushed y len pushed long here =
+      here ∙ ap (λ n. get_or ys (n - 1) y) long ∙ ap (λ n. get_or ys n y) (at_end pushed) ∙ ap (λ (zs : List X). get_or zs (length xs) y) pushed
+      ∙ get_or-append_seam xs x [] y
+
+  -- and one in its place stands there
+  pub last_set : (y : X) (len : ℕ) → ys ≡ xs ++ x ∷ [] → len ≡ length ys → set ys (len - 1) y ≡ xs ++ y ∷ []
+  last_set y len pushed long =
+      ap (λ n. set ys (n - 1) y) long ∙ ap (λ n. set ys n y) (at_end pushed)
+      ∙ ap (λ (zs : List X). set zs (length xs) y) pushed ∙ set-append_seam xs x [] y
 
 -- how many entries have a fault, with one more
 count_more : (p : Entry → Bool) (es : List Entry) (e : Entry) → count_by p (es ++ e ∷ []) ≡ count_by p es + (if p e then 1 else 0)

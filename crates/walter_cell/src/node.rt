@@ -182,21 +182,15 @@ impl<D: Disk + Drop> Node<D> {
         requires sized { IsSizedEvent self.old.catalog.sites event }
         ensures { Takes D.Disk stamp event self.old self.new }
     {
-        let Effect { came, frames, .. } = self.engine.take(&event);
-        let (sends, dropped) = put_out(&mut self.outs, stamp, came.sends, frames);
+        // What comes of it is written where it stays, in its entry.
+        let came = Came::only(*self.entries.allocator(), Outcome::Passed);
+        self.entries.push_reserved(Entry { stamp, event, came });
+        let Some(entry) = self.entries.last_mut() else {
+            unreachable!()
+        };
+        let Effect { frames, .. } = self.engine.take(&entry.event, &mut entry.came);
+        entry.came.dropped = put_out(&mut self.outs, stamp, &mut entry.came.sends, frames);
         self.clock = stamp;
-        self.entries.push_reserved(Entry {
-            stamp,
-            event,
-            came: Came {
-                outcome: came.outcome,
-                kept: came.kept,
-                wrote: came.wrote,
-                flight: came.flight,
-                sends,
-                dropped,
-            },
-        });
     }
 
     /// Does to the disk what `Disk::arm` does.

@@ -84,18 +84,19 @@ pub record HasCome {D : Type 0} {g : Ghosts D} (catalog : Catalog) (layout : Lay
 -- What is so of each event: what it comes to, and what a crash at any moment of it leaves. Where a restart is refused,
 -- the bytes that the disk has are the cause; what is put out has its frames; the disk's faults rise just where one was
 -- met.
-pub record HasTaken {D : Type 0} {g : Ghosts D} (old new : Engine D g) (event : Event) (effect : Effect) : Type 0 where
+pub record HasTaken {D : Type 0} {g : Ghosts D} (old new : Engine D g) (event : Event) (came : Came)
+    (effect : Effect) : Type 0 where
   pub comes : (S : Standing) → Stands old S
-      → HasCome (catalog_in old) (layout_in old) (site_in old) S event effect.came effect.refused new
+      → HasCome (catalog_in old) (layout_in old) (site_in old) S event came effect.refused new
   pub any_moment : (S : Standing) → Stands old S → OfDisks old new (λ before now.
-      LeavesOnly g.moment g.left_since before now (MayHaveNext (catalog_in old) (layout_in old) (site_in old) S event effect.came.kept))
+      LeavesOnly g.moment g.left_since before now (MayHaveNext (catalog_in old) (layout_in old) (site_in old) S event came.kept))
   pub refused : OfDisk new (λ disk. IfSome (g.known disk).reads (λ bytes.
       IfSome effect.refused (IsRefusedFor (catalog_in old) (shape_in old) (site_in old) bytes)))
-  pub why : effect.came.outcome ≡ Refused → IsSome effect.refused
-  pub sized : IsSized (catalog_in old).sites effect.came
-  pub framed : effect.frames.items ≡ map (λ s. frame_of (catalog_in old).sites s.1) effect.came.sends
-  pub none_dropped : effect.came.dropped ≡ 0
-  pub faults : OfDisks old new (λ before now. IsFaulty effect.came (g.known before).faults (g.known now).faults)
+  pub why : came.outcome ≡ Refused → IsSome effect.refused
+  pub sized : IsSized (catalog_in old).sites came
+  pub framed : effect.frames.items ≡ map (λ s. frame_of (catalog_in old).sites s.1) came.sends
+  pub none_dropped : came.dropped ≡ 0
+  pub faults : OfDisks old new (λ before now. IsFaulty came (g.known before).faults (g.known now).faults)
   pub arms : OfDisks old new (λ before now. (g.known now).arms ≡ (g.known before).arms)
   pub tells : OfDisks old new (λ before now. is_some (g.known now).reads ≡ is_some (g.known before).reads)
   pub engine : IsSameEngine old new

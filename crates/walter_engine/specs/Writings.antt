@@ -1,16 +1,30 @@
 -- How a record is spelled for a book.
-use Rattle.std.specs.Prelude.{◌≡◌, ◌⊎◌, ◌<◌, ℕ, List, length, Option, Some, None}
+use Rattle.std.specs.Prelude.{◌≡◌, ◌⊎◌, ◌<◌, ℕ, List, [], length, map, Option, Some, None, IfSome, is_some}
 use Rattle.walter_base.specs.declared.message.Record.{Record}
 use Rattle.walter_disk.specs.declared.disk.Disk.{Ghosts}
-use Rattle.walter_checkpoint.specs.Books.{disk_of, IsSameBook, HasRoom, HasRoomBehind}
+use Rattle.walter_disk.specs.Images.{LeavesOnly}
+use Rattle.walter_engine.specs.Contents.{AreSpelled, MayHaveNext}
+use Rattle.walter_engine.specs.Effects.{AreCalls}
+use Rattle.walter_engine.specs.Stores.{IsKept, IsLeft}
+use Rattle.walter_checkpoint.specs.Books.{disk_of, left_of, IsSameBook, HasRoom, HasRoomBehind}
 use Rattle.walter_checkpoint.specs.declared.book.Book.{Book}
-use Rattle.walter_machine.specs.Readiness.{rec_in, came_in}
+use Rattle.walter_machine.specs.Comings.{IsSized, IsFaulty}
+use Rattle.walter_machine.specs.Machines.{catalog_in, site_in, tables_in, is_up, HasStanding, IsCounted, IsSameSite}
+use Rattle.walter_machine.specs.Readiness.{rec_in, came_in, IsReadyFor}
+use Rattle.walter_machine.specs.declared.machine.Machine.{Machine}
 use Rattle.walter_machine.specs.declared.ready.Ready.{Ready}
+use Rattle.walter_packet.specs.Framed.{FramedBytes, frame_of}
 use Rattle.walter_record.specs.Spelling.{record_spelled, AreInRange}
-use Rattle.walter_rules.specs.Layouts.{need_of}
-use Rattle.walter_rules.specs.Trails.{failure, fullness, want}
+use Rattle.walter_rules.specs.Layouts.{Layout, need_of}
+use Rattle.walter_rules.specs.Standing.{Standing, stands_after, up_after}
+use Rattle.walter_rules.specs.Trails.{Comes, failure, fullness, want}
+use Rattle.walter_rules.specs.declared.entry.Came.{Came}
 use Rattle.walter_rules.specs.declared.event.Event.{Event}
+use Rattle.walter_rules.specs.declared.event.Event.TheVariants.{Given}
+use Rattle.walter_rules.specs.declared.event.Input.TheVariants.{Tick}
 use Rattle.walter_rules.specs.declared.outcome.Outcome.{Outcome}
+use Rattle.walter_rules.specs.declared.outcome.Outcome.TheVariants.{Taken}
+use Rattle.walter_tables.specs.Folding.{IsTidy}
 
 -- the disk tells what it told, and the book is as before, but for its room
 pub record IsSameButRoom {D : Type 0} {g : Ghosts D} (old new : Book D g) : Type 0 where
@@ -52,3 +66,36 @@ IsOutcomeOf event ready left outcome =
     ⊎ (outcome ≡ want event)
     ⊎ ((rec : Record) × (outcome ≡ failure event rec))
     ⊎ IsOverflow event ready left outcome
+
+-- What is ready came to this at a site over this book, with these frames of what is to be put out; and what it left: the
+-- outcome is one of these, and the machine and the book stand as it leaves them. A crash at any moment of it leaves the
+-- records from before, with the one that the rule brings behind them or without. Rows that are folded stay so at a tick.
+pub record Writes {D : Type 0} (g : Ghosts D) (old new : Machine) (before now : Book D g) (event : Event) (ready : Ready)
+    (came : Came) (frames : List FramedBytes) : Type 0 where
+  pub comes : (layout : Layout) (S : Standing) → HasStanding old S → IsCounted old S (rec_in ready)
+      → IsReadyFor (catalog_in old) (site_in old) (tables_in old) S event ready
+      → AreSpelled (catalog_in old).sites S → IsKept layout S before
+      → Comes (catalog_in old) layout (site_in old) S event came
+  pub leaves : (layout : Layout) (S : Standing) → HasStanding old S → IsCounted old S (rec_in ready)
+      → IsReadyFor (catalog_in old) (site_in old) (tables_in old) S event ready
+      → AreSpelled (catalog_in old).sites S → IsKept layout S before
+      → IsLeft layout new (stands_after (catalog_in old) (site_in old) S event came) now
+  pub any_moment : (layout : Layout) (S : Standing)
+      → IsReadyFor (catalog_in old) (site_in old) (tables_in old) S event ready → IsKept layout S before
+      → LeavesOnly g.moment g.left_since (disk_of before) (disk_of now)
+      (MayHaveNext (catalog_in old) layout (site_in old) S event None)
+  pub outcome : IsOutcomeOf event ready (left_of before) came.outcome
+  pub up : is_up new ≡ up_after event came.outcome (is_up old)
+  pub sent : (came_in ready).sends ≡ [] → came.sends ≡ []
+  pub wrote : came.outcome ≡ Taken → came.wrote ≡ rec_in ready
+  pub untouched : rec_in ready ≡ None → disk_of now ≡ disk_of before
+  pub sized : IsSized (catalog_in old).sites came
+  pub framed : frames ≡ map (λ s. frame_of (catalog_in old).sites s.1) came.sends
+  pub none_dropped : came.dropped ≡ 0
+  pub none_kept : came.kept ≡ None
+  pub faults : IsFaulty came (g.known (disk_of before)).faults (g.known (disk_of now)).faults
+  pub arms : (g.known (disk_of now)).arms ≡ (g.known (disk_of before)).arms
+  pub tells : is_some (g.known (disk_of now)).reads ≡ is_some (g.known (disk_of before)).reads
+  pub device : AreCalls came (g.device_calls (disk_of before)) (g.device_calls (disk_of now))
+  pub tidy : event ≡ Given Tick → IfSome (tables_in old) IsTidy → IfSome (tables_in new) IsTidy
+  pub same : IsSameSite old new

@@ -1,12 +1,10 @@
 use thiserror::Error;
 use walter_packet::Framed;
-use walter_rules::Came;
 
-/// What came of an event before anything was put out, with the frames of what is to be; and why a restart was refused,
-/// where it was.
+/// What comes of an event beside what its entry tells: the frames of what is to be put out; and why a restart was
+/// refused, where it was.
 #[derive(Drop)]
 pub struct Effect {
-    pub came: Came,
     pub frames: Vec<Framed>,
     pub refused: Option<RefusedRestart>,
 }

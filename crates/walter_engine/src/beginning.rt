@@ -17,7 +17,7 @@ use walter_checkpoint::Book;
 use walter_disk::Disk;
 use walter_journal::JournalFault;
 use walter_machine::Machine;
-use walter_rules::Outcome;
+use walter_rules::{Came, Outcome};
 
 /// Begins a site over its book, which has these bodies. One that has records is left as it is.
 pub(crate) fn begin_over<D: Disk>(
@@ -52,7 +52,8 @@ pub(crate) fn begin_over<D: Disk>(
         return Err(BeginFault::Used);
     }
     machine.settle(0);
-    let (came, _) = raise(alloc, machine, book, bodies);
+    let mut came = Came::only(alloc, Outcome::Passed);
+    raise(alloc, machine, book, bodies, &mut came);
     answer_to(&came.outcome)
 }
 

@@ -28,6 +28,8 @@ pub struct Engine<D: Disk> {
     // The journal of a site that is up, or the bare disk of one that is down. Neither is there only within a call.
     book: Option<Book<D>>,
     disk: Option<D>,
+    // What is ready for an event is made in the same place for each.
+    ready: Ready,
     ghost open: { is_some book ≡ is_up_machine machine },
     ghost bare: { is_some disk ≡ not (is_up_machine machine) },
     ghost laid: { IsAreas areas capacity } by { Prim.hlevel props },
@@ -43,7 +45,7 @@ impl<D: Disk + Drop> Engine<D> {
     ghost use Rattle.walter_engine.specs.Restarts.{RestartsOver};
     ghost use Rattle.walter_engine.specs.Stores.{IsOnDisk};
     ghost use Rattle.walter_checkpoint.specs.Loads.{calls_of_load};
-    ghost use Rattle.walter_machine.specs.Comings.{IsSized, IsFaulty};
+    ghost use Rattle.walter_machine.specs.Comings.{IsOutcomeAlone, IsSized, IsFaulty};
     ghost use Rattle.walter_machine.specs.States.{AreTold, IsSizedEvent};
     ghost use Rattle.walter_packet.specs.Framed.{frame_of};
     ghost use Rattle.walter_rules.specs.Deliveries.{IsLeastEnabled};
@@ -94,6 +96,7 @@ impl<D: Disk + Drop> Engine<D> {
             areas,
             book: None,
             disk: Some(disk),
+            ready: Ready::none(alloc),
         })
     }
 
@@ -152,35 +155,37 @@ impl<D: Disk + Drop> Engine<D> {
         arm(&mut self.book, &mut self.disk, nth, choice)
     }
 
-    /// An event comes to the site. It takes all its memory before it writes to the journal.
-    pub fn take(&mut self, event: &Event) -> Effect
+    /// An event comes to the site. It takes all its memory before it writes to the journal. What comes of it is written
+    /// where it stays.
+    pub fn take(&mut self, event: &Event, came: &mut Came) -> Effect
+        requires alone { IsOutcomeAlone came.old }
         requires sized { IsSizedEvent (catalog_in self.old).sites event.now }
         ensures comes { (S : Standing) → Stands self.old S
             → HasCome (catalog_in self.old) (layout_in self.old) (site_in self.old) S event.now
-            result.came result.refused self.new }
+            came.new result.refused self.new }
         // what a crash at any moment of it leaves
         ensures any_moment { (S : Standing) → Stands self.old S → OfDisks self.old self.new (λ old new.
             LeavesOnly D.moment D.left_since old new
-            (MayHaveNext (catalog_in self.old) (layout_in self.old) (site_in self.old) S event.now result.came.kept)) }
+            (MayHaveNext (catalog_in self.old) (layout_in self.old) (site_in self.old) S event.now came.new.kept)) }
         // where a restart is refused, the bytes that the disk has are the cause
         ensures refused { OfDisk self.new (λ disk. IfSome (D.known disk).reads (λ bytes.
             IfSome result.refused (IsRefusedFor (catalog_in self.old) (shape_in self.old) (site_in self.old) bytes))) }
-        ensures why { result.came.outcome ≡ outcome.Refused → IsSome result.refused }
+        ensures why { came.new.outcome ≡ outcome.Refused → IsSome result.refused }
         // what a restart comes to over any disk that tells what it holds, whoever left that there
         ensures restarts { is_up self.old ≡ false → event.now ≡ happens.Restart → OfDisk self.old (λ disk.
             IfSome (D.known disk).reads (λ bytes. RestartsOver (catalog_in self.old) (shape_in self.old)
-            (layout_in self.old) (site_in self.old) bytes (D.may_leave disk) result.came result.refused)) }
-        ensures sized { IsSized (catalog_in self.old).sites result.came }
+            (layout_in self.old) (site_in self.old) bytes (D.may_leave disk) came.new result.refused)) }
+        ensures sized { IsSized (catalog_in self.old).sites came.new }
         ensures framed { result.frames.items
-            ≡ map (λ s. frame_of (catalog_in self.old).sites s.1) result.came.sends }
-        ensures none_dropped { result.came.dropped ≡ 0 }
+            ≡ map (λ s. frame_of (catalog_in self.old).sites s.1) came.new.sends }
+        ensures none_dropped { came.new.dropped ≡ 0 }
         ensures faults { OfDisks self.old self.new (λ old new.
-            IsFaulty result.came (D.known old).faults (D.known new).faults) }
+            IsFaulty came.new (D.known old).faults (D.known new).faults) }
         // how many calls of the disk an arm counts
         ensures device { (is_up self.old ≡ false → event.now ≢ happens.Restart) → OfDisks self.old self.new (λ old new.
-            AreCalls result.came (D.device_calls old) (D.device_calls new)) }
+            AreCalls came.new (D.device_calls old) (D.device_calls new)) }
         ensures loads { is_up self.old ≡ false → event.now ≡ happens.Restart → OfDisks self.old self.new (λ old new.
-            AreCallsToRestart (shape_in self.old) self.old.areas (D.known old).size result.came
+            AreCallsToRestart (shape_in self.old) self.old.areas (D.known old).size came.new
             (D.device_calls old) (D.device_calls new)) }
         ensures arms { OfDisks self.old self.new (λ old new. (D.known new).arms ≡ (D.known old).arms) }
         ensures tells { OfDisks self.old self.new (λ old new.
@@ -193,68 +198,70 @@ impl<D: Disk + Drop> Engine<D> {
         ensures engine { IsSameEngine self.old self.new }
     {
         if self.is_up() {
-            return self.act(event);
+            return self.act(event, came);
         }
         match event {
-            Event::Restart => self.restart(),
-            _ => self.decline(event),
+            Event::Restart => self.restart(came),
+            _ => self.decline(event, came),
         }
     }
 
     // An event comes to a site that is up.
-    fn act(&mut self, event: &Event) -> Effect
+    fn act(&mut self, event: &Event, came: &mut Came) -> Effect
+        requires alone { IsOutcomeAlone came.old }
         requires sized { IsSizedEvent (catalog_in self.old).sites event.now }
         requires up { is_up self.old ≡ true }
-        ensures taken { HasTaken self.old self.new event.now result }
+        ensures taken { HasTaken self.old self.new event.now came.new result }
         ensures device { OfDisks self.old self.new (λ old new.
-            AreCalls result.came (D.device_calls old) (D.device_calls new)) }
+            AreCalls came.new (D.device_calls old) (D.device_calls new)) }
         ensures stops { event.now ≡ happens.Stop → disk_in self.new ≡ disk_in self.old }
         ensures tidy { event.now ≡ happens.Given inputs.Tick → IfSome (tables_in self.new) IsTidy }
     {
         let Some(book) = &mut self.book else {
             unreachable!()
         };
-        let mut ready = Ready::none(self.alloc);
-        let Ok(()) = self.machine.prepare(event, &mut ready) else {
+        let ready = &mut self.ready;
+        let Ok(()) = self.machine.prepare(event, ready) else {
+            self.machine.want(event, came);
             return Effect {
-                came: self.machine.want(event),
                 frames: Vec::new(self.alloc),
                 refused: None,
             };
         };
-        let (came, frames) = write(self.alloc, &mut self.machine, book, event, &mut ready);
+        let frames = write(self.alloc, &mut self.machine, book, event, ready, came);
         close_unless(self.machine.is_up(), &mut self.book, &mut self.disk);
         Effect {
-            came,
             frames,
             refused: None,
         }
     }
 
     // What comes to a site that is down and isn't to restart.
-    fn decline(&self, event: &Event) -> Effect
+    fn decline(&self, event: &Event, came: &mut Came) -> Effect
+        requires alone { IsOutcomeAlone came.old }
         requires down { is_up self.now ≡ false }
         requires stays { event.now ≢ happens.Restart }
-        ensures taken { HasTaken self.now self.now event.now result }
+        ensures taken { HasTaken self.now self.now event.now came.new result }
         ensures device { OfDisks self.now self.now (λ old new.
-            AreCalls result.came (D.device_calls old) (D.device_calls new)) }
+            AreCalls came.new (D.device_calls old) (D.device_calls new)) }
     {
+        self.machine.decline(event, came);
         Effect {
-            came: self.machine.decline(event),
             frames: Vec::new(self.alloc),
             refused: None,
         }
     }
 
     // The site is made anew from its journal.
-    fn restart(&mut self) -> Effect
+    fn restart(&mut self, came: &mut Came) -> Effect
+        requires alone { IsOutcomeAlone came.old }
         requires down { is_up self.old ≡ false }
-        ensures taken { HasTaken self.old self.new happens.Restart result }
+        ensures taken { HasTaken self.old self.new happens.Restart came.new result }
         ensures restarts { OfDisk self.old (λ disk. IfSome (D.known disk).reads (λ bytes.
             RestartsOver (catalog_in self.old) (shape_in self.old) (layout_in self.old) (site_in self.old) bytes
-            (D.may_leave disk) result.came result.refused)) }
+            (D.may_leave disk) came.new result.refused)) }
         ensures loads { OfDisks self.old self.new (λ old new.
-            AreCallsToRestart (shape_in self.old) self.old.areas (D.known old).size result.came
+            AreCallsToRestart (shape_in self.old) self.old.areas (D.known old).size came.new
             (D.device_calls old) (D.device_calls new)) }
     {
         // What is loaded is then what the site left.
@@ -268,8 +275,8 @@ impl<D: Disk + Drop> Engine<D> {
             Err((disk, fault)) => {
                 self.disk = Some(disk);
                 let (outcome, refused) = unloaded(fault);
+                self.machine.rest(outcome, came);
                 return Effect {
-                    came: self.machine.rest(outcome),
                     frames: Vec::new(self.alloc),
                     refused,
                 };
@@ -277,11 +284,11 @@ impl<D: Disk + Drop> Engine<D> {
         };
         let bodies = bodies.as_slice();
         let kept = self.machine.settle(bodies.len() as u64);
-        let (came, refused) = raise(self.alloc, &mut self.machine, &mut book, bodies);
+        let refused = raise(self.alloc, &mut self.machine, &mut book, bodies, came);
+        came.kept = kept;
         self.book = Some(book);
         close_unless(self.machine.is_up(), &mut self.book, &mut self.disk);
         Effect {
-            came: Came { kept, ..came },
             frames: Vec::new(self.alloc),
             refused,
         }

@@ -7,7 +7,7 @@ ghost use Rattle.walter_engine.specs.Raises.{IsPacked, LiesIn, Raises, calls_bef
 ghost use Rattle.walter_checkpoint.specs.Books.{disk_of, shape_of, GoesOnBehind, IsReady, HasPackRoom, StandsFor};
 ghost use Rattle.walter_engine.specs.Restarts.{ComesOf, left_over};
 ghost use Rattle.walter_engine.specs.Stores.{layout_of};
-ghost use Rattle.walter_machine.specs.Comings.{IsSized, IsFaulty};
+ghost use Rattle.walter_machine.specs.Comings.{IsOutcomeAlone, IsSized, IsFaulty};
 ghost use Rattle.walter_machine.specs.Machines.{catalog_in, site_in, tables_in, records_in, is_up, HasStanding, IsSameSite};
 ghost use Rattle.walter_rules.specs.Layouts.{Layout};
 ghost use Rattle.walter_rules.specs.Standing.{Standing, up_after};
@@ -24,13 +24,15 @@ use walter_machine::Machine;
 use walter_rules::{Came, Event, Outcome};
 
 /// The site comes up that the bodies of its book tell, in its next epoch, which is journaled. The record in flight is
-/// decided before. A book of two areas that has bodies is packed first.
+/// decided before. A book of two areas that has bodies is packed first. Why it is refused comes back, where it is.
 pub(crate) fn raise<D: Disk>(
     alloc: Global,
     machine: &mut Machine,
     book: &mut Book<D>,
     bodies: &[Vec<u8>],
-) -> (Came, Option<RefusedRestart>)
+    came: &mut Came,
+) -> Option<RefusedRestart>
+    requires alone { IsOutcomeAlone came.old }
     requires down { tables_in machine.old ≡ None }
     requires countable { records_in machine.old + 1 < 2 ^ 64 }
     requires sites { (shape_of book.old).sites ≡ (catalog_in machine.old).sites }
@@ -40,44 +42,58 @@ pub(crate) fn raise<D: Disk>(
     ensures raises { (layout : Layout) (S : Standing) → LiesIn (catalog_in machine.old) layout (site_in machine.old) S
         book.old (map (λ body. body.items) bodies.now)
         → HasStanding machine.old S → records_in machine.old ≡ length S.records
-        → Raises (catalog_in machine.old) layout (site_in machine.old) S result.0 result.1 machine.new book.new }
+        → Raises (catalog_in machine.old) layout (site_in machine.old) S came.new result machine.new book.new }
     ensures any_moment { (layout : Layout) (S : Standing) → LiesIn (catalog_in machine.old) layout (site_in machine.old) S
         book.old (map (λ body. body.items) bodies.now)
         → LeavesOnly D.moment D.left_since (disk_of book.old) (disk_of book.new)
         (MayHaveNext (catalog_in machine.old) layout (site_in machine.old) S event.Restart None) }
-    ensures refused { IfSome result.1 (λ why. (disk_of book.new ≡ disk_of book.old)
+    ensures refused { IfSome result (λ why. (disk_of book.new ≡ disk_of book.old)
         × IsRefusedOver (catalog_in machine.old) (site_in machine.old) (map (λ body. body.items) bodies.now) why) }
     // over any bodies
     ensures over { ComesOf (catalog_in machine.old) (site_in machine.old)
         (left_over (layout_of book.old) (map (λ body. body.items) bodies.now))
-        (map (λ body. body.items) bodies.now) result.0.wrote result.1 result.0.outcome }
-    ensures up { is_up machine.new ≡ up_after event.Restart result.0.outcome false }
-    ensures sized { IsSized (catalog_in machine.old).sites result.0 }
-    ensures none_sent { result.0.sends ≡ [] }
-    ensures none_dropped { result.0.dropped ≡ 0 }
-    ensures none_kept { result.0.kept ≡ None }
-    ensures faults { IsFaulty result.0 (D.known (disk_of book.old)).faults (D.known (disk_of book.new)).faults }
+        (map (λ body. body.items) bodies.now) came.new.wrote result came.new.outcome }
+    ensures up { is_up machine.new ≡ up_after event.Restart came.new.outcome false }
+    ensures sized { IsSized (catalog_in machine.old).sites came.new }
+    ensures none_sent { came.new.sends ≡ [] }
+    ensures none_dropped { came.new.dropped ≡ 0 }
+    ensures none_kept { came.new.kept ≡ None }
+    ensures faults { IsFaulty came.new (D.known (disk_of book.old)).faults (D.known (disk_of book.new)).faults }
     ensures arms { (D.known (disk_of book.new)).arms ≡ (D.known (disk_of book.old)).arms }
     ensures tells { is_some (D.known (disk_of book.new)).reads ≡ is_some (D.known (disk_of book.old)).reads }
-    ensures device { AreCallsOfRestart result.0 (calls_before book.old (map (λ body. body.items) bodies.now))
+    ensures device { AreCallsOfRestart came.new (calls_before book.old (map (λ body. body.items) bodies.now))
         (D.device_calls (disk_of book.old)) (D.device_calls (disk_of book.new)) }
     ensures same { IsSameSite machine.old machine.new }
 {
     let mut ready = match ready_over(alloc, machine.catalog(), machine.id(), bodies) {
         Ok(ready) => ready,
-        Err(why) => return (machine.rest(hindrance(why)), why),
+        Err(why) => {
+            machine.rest(hindrance(why), came);
+            return why;
+        }
     };
     let Ok(()) = machine.make_room() else {
-        return (machine.want(&Event::Restart), None);
+        machine.want(&Event::Restart, came);
+        return None;
     };
     let Ok(body) = spell_any(alloc, book, &ready) else {
-        return (machine.want(&Event::Restart), None);
+        machine.want(&Event::Restart, came);
+        return None;
     };
     if pack_any(book, bodies).is_err() {
-        return (machine.rest(Outcome::Failed), None);
+        machine.rest(Outcome::Failed, came);
+        return None;
     }
-    let (came, _) = put(alloc, machine, book, &Event::Restart, &mut ready, body);
-    (came, None)
+    put(
+        alloc,
+        machine,
+        book,
+        &Event::Restart,
+        &mut ready,
+        body,
+        came,
+    );
+    None
 }
 
 // A restart packs what it found, if that is anything. What was to be appended has room still.

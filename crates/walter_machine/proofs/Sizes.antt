@@ -1,12 +1,13 @@
 -- What comes alone is sized, and what leaves a site up tells of no fault.
-use Rattle.std.proofs.Common.{◌≡◌, ℕ, false, [], refl, subst, ◌⊎◌, inl, inr}
+use Rattle.std.proofs.Common.{◌≡◌, ◌∙◌, ℕ, false, [], refl, sym, ap, subst, ◌⊎◌, inl, inr}
 use Rattle.std.specs.Prelude.{All}
 use Rattle.std.proofs.lemmas.List.Elements.{All-nil}
 use Rattle.walter_base.specs.declared.message.Reply.{Reply}
 use Rattle.walter_base.specs.declared.message.Reply.TheVariants.{Unsure}
 use Rattle.walter_base.specs.declared.names.Tid.{Tid}
-use Rattle.walter_machine.specs.Comings.{IsSized, is_faulty}
+use Rattle.walter_machine.specs.Comings.{IsOutcomeAlone, IsSized, is_faulty}
 use Rattle.walter_packet.specs.Spelling.{HasPacketSpelling}
+use Rattle.walter_rules.specs.declared.entry.Came.{Came}
 use Rattle.walter_rules.specs.declared.event.Event.{Event}
 use Rattle.walter_rules.specs.declared.outcome.Outcome.{Outcome}
 use Rattle.walter_rules.specs.declared.outcome.Outcome.TheVariants.{Replied, Taken, Passed, Failed, Full, Memory, Down, Refused}
@@ -23,6 +24,10 @@ none_sent sites = All-nil (λ (s : Send). HasPacketSpelling sites s.1)
 pub sized_only : (sites : ℕ) (outcome : Outcome) → IsShortOutcome outcome → IsSized sites (only outcome)
 sized_only sites outcome short =
     record { outcome = short; kept = tt; wrote = tt; flight = tt; sends = none_sent sites }
+
+-- what is an outcome alone is its own
+pub only_alone : (came : Came) (outcome : Outcome) → came ≡ only outcome → IsOutcomeAlone came
+only_alone came outcome is = is ∙ sym (ap (λ (x : Came). only x.outcome) is)
 
 unsure_or_not : (reply : Reply) → ((tid : Tid) × (reply ≡ Unsure tid)) ⊎ (is_faulty (Replied reply) ≡ false)
 unsure_or_not (Unsure tid) = inl (tid, refl)

@@ -12,7 +12,7 @@ use Rattle.walter_base.specs.Sizes.{CanBeRecorded}
 use Rattle.walter_machine.specs.declared.machine.Machine.{Machine}
 use Rattle.walter_machine.specs.declared.ready.Ready.{Ready}
 use Rattle.walter_machine.specs.Steps.{Step, Answer, Apply, Fall, Rise, came_of, outcome_of, record_of, sends_of, IsIdle, IsStep, Steps, flight_behind, records_behind}
-use Rattle.walter_machine.specs.Comings.{IsRest}
+use Rattle.walter_machine.specs.Comings.{IsOutcomeAlone, IsRest}
 use Rattle.walter_machine.specs.Debts.{IsDebtOf, owed_by, sessions_lost}
 use Rattle.walter_machine.specs.Machines.{is_up, HasRoom, HasStanding, IsCounted, AreFound, Settles}
 use Rattle.walter_machine.specs.Readiness.{step_in, IsReadyFor, rec_in, came_in}
@@ -254,17 +254,16 @@ keep_comes catalog layout i site S event ready is fits =
           (put_all S.carried (sends_of (step_in ready)));
     })
 
-pub came_made : (outcome : Outcome) (kept wrote flight : Option Record) (sends : List Send) (step : Step)
-    → outcome ≡ outcome_of step → kept ≡ None → wrote ≡ record_of step → flight ≡ None → sends ≡ sends_of step
-    → record { outcome = outcome; kept = kept; wrote = wrote; flight = flight; sends = sends; dropped = 0 } ≡ came_of step
-came_made outcome kept wrote flight sends step outcome_is kept_is wrote_is flight_is sends_is = λ j. record {
-  outcome = outcome_is j;
-  kept = kept_is j;
-  wrote = wrote_is j;
-  flight = flight_is j;
-  sends = sends_is j;
-  dropped = 0;
-}
+pub came_made : (came : Came) (outcome : Outcome) (wrote : Option Record) (sends : List Send) (step : Step)
+    → IsOutcomeAlone came → outcome ≡ outcome_of step → wrote ≡ record_of step → sends ≡ sends_of step
+    → record came { outcome = outcome; wrote = wrote; sends = sends } ≡ came_of step
+came_made came outcome wrote sends step alone outcome_is wrote_is sends_is =
+    λ j. record (alone j) { outcome = outcome_is j; wrote = wrote_is j; sends = sends_is j }
+
+-- an outcome in the place of another one
+pub only_made : (came : Came) (outcome made : Outcome) → IsOutcomeAlone came → outcome ≡ made
+    → record came { outcome = outcome } ≡ only made
+only_made came outcome made alone is = λ j. record (alone j) { outcome = is j }
 
 -- what is in flight behind a step can be recorded, where it could before
 pub flight_sized : (P : Record → Type 0) (wrote flight : Option Record) → IfSome flight P → IfSome (flight_behind wrote flight) P
@@ -403,24 +402,11 @@ failed_standing_by old new S event ready rec came outcome here is has counted re
     sessions : sessions_lost new.lost ≡ (after old.catalog old.id S.knows event (failure event rec) None).sessions
     sessions = by old.site refl has.state of (loses S.knows)
 
-pub fault_made : (alone : Came) (outcome : Outcome) (flight : Option Record) (event : Event) (rec : Record)
-    → alone ≡ only outcome → outcome ≡ failure event rec → flight ≡ Some rec
-    → record {
-      outcome = alone.outcome;
-      kept = alone.kept;
-      wrote = alone.wrote;
-      flight = flight;
-      sends = alone.sends;
-      dropped = alone.dropped;
-    } ≡ fault_of event rec
-fault_made alone outcome flight event rec is outcome_is flight_is = λ j. record {
-  outcome = (ap (λ (c : Came). c.outcome) is ∙ outcome_is) j;
-  kept = ap (λ (c : Came). c.kept) is j;
-  wrote = ap (λ (c : Came). c.wrote) is j;
-  flight = flight_is j;
-  sends = ap (λ (c : Came). c.sends) is j;
-  dropped = ap (λ (c : Came). c.dropped) is j;
-}
+pub fault_made : (came : Came) (outcome : Outcome) (flight : Option Record) (event : Event) (rec : Record)
+    → IsOutcomeAlone came → outcome ≡ failure event rec → flight ≡ Some rec
+    → record came { outcome = outcome; flight = flight } ≡ fault_of event rec
+fault_made came outcome flight event rec alone outcome_is flight_is =
+    λ j. record (alone j) { outcome = outcome_is j; flight = flight_is j }
 
 -- what can be the next can be recorded
 pub next_recorded : (catalog : Catalog) (i : SiteId) (S : Standing) (o : Option Record) → IfSome o (CanBeNext catalog i S)

@@ -7,6 +7,7 @@ use Rattle.walter_rules.specs.declared.entry.Came.{Came}
 use Rattle.walter_rules.specs.declared.event.Event.{Event}
 use Rattle.walter_rules.specs.declared.event.Event.TheVariants.{Given}
 use Rattle.walter_rules.specs.declared.event.Input.TheVariants.{Call}
+use Rattle.walter_rules.specs.Trails.{only}
 use Rattle.walter_rules.specs.declared.outcome.Outcome.{Outcome}
 use Rattle.walter_rules.specs.declared.outcome.Outcome.TheVariants.{Replied, Taken, Failed, Memory, Refused}
 use Rattle.walter_rules.specs.declared.event.Event.TheVariants.{Stop}
@@ -19,6 +20,10 @@ pub record IsSized (sites : ℕ) (came : Came) : Type 0 where
   pub wrote : IfSome came.wrote CanBeRecorded
   pub flight : IfSome came.flight CanBeRecorded
   pub sends : All (λ s. HasPacketSpelling sites s.1) came.sends
+
+-- an outcome alone: no record, and nothing put out
+abbrev pub IsOutcomeAlone : Came → Type 0
+IsOutcomeAlone came = came ≡ only came.outcome
 
 -- a fault of the disk was met
 abbrev pub is_faulty : Outcome → Bool

@@ -48,7 +48,7 @@ pub struct Machine {
 }
 
 impl Machine {
-    ghost use Rattle.walter_machine.specs.Comings.{IsRest, IsSized, is_faulty};
+    ghost use Rattle.walter_machine.specs.Comings.{IsRest, IsOutcomeAlone, IsSized, is_faulty};
     ghost use Rattle.walter_machine.specs.Machines.{catalog_in, site_in, tables_in, is_up, flight_in, records_in};
     ghost use Rattle.walter_machine.specs.Machines.{HasStanding, HasRoom, IsSameSite, AreFound, Settles};
     ghost use Rattle.walter_machine.specs.Machines.{IsCountable, IsCounted};
@@ -184,21 +184,22 @@ impl Machine {
 
     /// What comes to a site that is down, but for a restart: it is answered so, and nothing is done. It takes no
     /// memory.
-    pub fn decline(&self, event: &Event) -> Came
+    pub fn decline(&self, event: &Event, came: &mut Came)
         requires down { is_up self.now ≡ false }
         requires stays { event.now ≢ happens.Restart }
-        ensures only { result ≡ only result.outcome }
+        requires alone { IsOutcomeAlone came.old }
+        ensures alone { IsOutcomeAlone came.new }
         ensures ruled { (S : Standing) → S.up ≡ false
-            → result.outcome ≡ (rule (catalog_in self.now) (site_in self.now) S event.now).outcome }
-        ensures sized { IsSized (catalog_in self.now).sites result }
-        ensures fine { is_faulty result.outcome ≡ false }
+            → came.new.outcome ≡ (rule (catalog_in self.now) (site_in self.now) S event.now).outcome }
+        ensures sized { IsSized (catalog_in self.now).sites came.new }
+        ensures fine { is_faulty came.new.outcome ≡ false }
         ensures comes { (layout : Layout) (S : Standing) → HasStanding self.now S
-            → Comes (catalog_in self.now) layout (site_in self.now) S event.now result }
+            → Comes (catalog_in self.now) layout (site_in self.now) S event.now came.new }
         ensures stands { (S : Standing) → HasStanding self.now S
-            → HasStanding self.now (stands_after (catalog_in self.now) (site_in self.now) S event.now result) }
-        ensures down { up_after event.now result.outcome false ≡ false }
+            → HasStanding self.now (stands_after (catalog_in self.now) (site_in self.now) S event.now came.new) }
+        ensures down { up_after event.now came.new.outcome false ≡ false }
     {
-        Came::only(self.alloc, outcome_of_down(event))
+        came.outcome = outcome_of_down(event);
     }
 
     /// A restart found so many records, by which the record in flight is decided. It comes back where it is one of them.
@@ -223,21 +224,23 @@ impl Machine {
         mem::replace(&mut self.flight, MaybeRecord::none())
     }
 
-    /// The event comes; its record, if there is one, is stable. It takes no memory.
-    pub fn keep(&mut self, event: &Event, ready: &mut Ready) -> (Came, Vec<Framed>)
+    /// The event comes; its record, if there is one, is stable. What is to be put out has its frames. It takes no memory.
+    pub fn keep(&mut self, event: &Event, ready: &mut Ready, came: &mut Came) -> Vec<Framed>
         requires room { is_up self.old ≡ false → HasRoom self.old }
         requires countable { IsCountable self.old ready.old }
-        requires anyway { IsReadyAnyway (catalog_in self.old) (site_in self.old) (tables_in self.old) event.now ready.old }
-        ensures came { result.0 ≡ came_in ready.old }
-        ensures framed { result.1.items ≡ ready.old.frames.items }
+        requires anyway { IsReadyAnyway (catalog_in self.old) (site_in self.old) (tables_in self.old) event.now
+            ready.old }
+        requires alone { IsOutcomeAlone came.old }
+        ensures came { came.new ≡ came_in ready.old }
+        ensures framed { result.items ≡ ready.old.frames.items }
         ensures comes { (layout : Layout) (S : Standing)
             → IsReadyFor (catalog_in self.old) (site_in self.old) (tables_in self.old) S event.now ready.old
             → IfSome (rec_in ready.old) (FitsIn layout S)
-            → Comes (catalog_in self.old) layout (site_in self.old) S event.now result.0 }
+            → Comes (catalog_in self.old) layout (site_in self.old) S event.now came.new }
         ensures stands { (S : Standing) → HasStanding self.old S → IsCounted self.old S (rec_in ready.old)
             → IsReadyFor (catalog_in self.old) (site_in self.old) (tables_in self.old) S event.now ready.old
-            → HasStanding self.new (stands_after (catalog_in self.old) (site_in self.old) S event.now result.0) }
-        ensures up { is_up self.new ≡ up_after event.now result.0.outcome (is_up self.old) }
+            → HasStanding self.new (stands_after (catalog_in self.old) (site_in self.old) S event.now came.new) }
+        ensures up { is_up self.new ≡ up_after event.now came.new.outcome (is_up self.old) }
         ensures tick { event.now ≡ happens.Given inputs.Tick → tables_in self.new ≡ tables_in self.old }
         ensures same { IsSameSite self.old self.new }
     {
@@ -257,31 +260,28 @@ impl Machine {
             plan,
         );
         forgive(&mut self.debts, event, &plan.planned.outcome);
-        let came = Came {
-            outcome: mem::replace(&mut plan.planned.outcome, Outcome::Taken),
-            kept: MaybeRecord::none(),
-            wrote,
-            flight: MaybeRecord::none(),
-            sends: mem::replace(&mut plan.planned.sends, Sends::from(Vec::new(self.alloc))),
-            dropped: 0,
-        };
-        (came, mem::replace(&mut ready.frames, Vec::new(self.alloc)))
+        came.outcome = mem::replace(&mut plan.planned.outcome, Outcome::Taken);
+        came.wrote = wrote;
+        came.sends = mem::replace(&mut plan.planned.sends, Sends::from(Vec::new(self.alloc)));
+        mem::replace(&mut ready.frames, Vec::new(self.alloc))
     }
 
     /// The record of the event met a fault of the disk: it is in flight, and the site is down. It takes no memory.
-    pub fn fail(&mut self, event: &Event, ready: &mut Ready) -> Came
+    pub fn fail(&mut self, event: &Event, ready: &mut Ready, came: &mut Came)
         requires room { is_up self.old ≡ false → HasRoom self.old }
-        requires anyway { IsReadyAnyway (catalog_in self.old) (site_in self.old) (tables_in self.old) event.now ready.old }
+        requires anyway { IsReadyAnyway (catalog_in self.old) (site_in self.old) (tables_in self.old) event.now
+            ready.old }
         requires flies { IsSome (rec_in ready.old) }
+        requires alone { IsOutcomeAlone came.old }
         ensures came { IfSome (rec_in ready.old) (λ rec.
-            result ≡ record (only (failure event.now rec)) { flight = Some rec }) }
+            came.new ≡ record (only (failure event.now rec)) { flight = Some rec }) }
         ensures comes { (layout : Layout) (S : Standing)
             → IsReadyFor (catalog_in self.old) (site_in self.old) (tables_in self.old) S event.now ready.old
             → IfSome (rec_in ready.old) (FitsIn layout S)
-            → Comes (catalog_in self.old) layout (site_in self.old) S event.now result }
+            → Comes (catalog_in self.old) layout (site_in self.old) S event.now came.new }
         ensures stands { (S : Standing) → HasStanding self.old S → IsCounted self.old S (rec_in ready.old)
             → IsReadyFor (catalog_in self.old) (site_in self.old) (tables_in self.old) S event.now ready.old
-            → HasStanding self.new (stands_after (catalog_in self.old) (site_in self.old) S event.now result) }
+            → HasStanding self.new (stands_after (catalog_in self.old) (site_in self.old) S event.now came.new) }
         ensures down { tables_in self.new ≡ None }
         ensures same { IsSameSite self.old self.new }
     {
@@ -293,49 +293,50 @@ impl Machine {
         let outcome = failure(event, failed);
         self.flight = place(&mut self.places, rec_of(kind, &mut ready.plan));
         lose(&mut self.site, &mut self.lost, event, &outcome);
-        Came {
-            flight: rec,
-            ..Came::only(self.alloc, outcome)
-        }
+        came.outcome = outcome;
+        came.flight = rec;
     }
 
     /// The record of the event found no place: so many bytes are needed, and so many left. The site stands as before.
-    pub fn overflow(&mut self, event: &Event, ready: &Ready, need: u64, left: u64) -> Came
+    pub fn overflow(&mut self, event: &Event, ready: &Ready, need: u64, left: u64, came: &mut Came)
         requires flies { IsSome (rec_in ready.now) }
-        ensures came { result ≡ only (fullness event.now need left) }
+        requires alone { IsOutcomeAlone came.old }
+        ensures came { came.new ≡ only (fullness event.now need left) }
         ensures comes { (layout : Layout) (S : Standing)
             → IsReadyFor (catalog_in self.old) (site_in self.old) (tables_in self.old) S event.now ready.now
             → IfSome (rec_in ready.now) (λ rec. (need ≡ need_of rec) × (left ≡ left_behind layout S) × (left < need))
-            → Comes (catalog_in self.old) layout (site_in self.old) S event.now result }
+            → Comes (catalog_in self.old) layout (site_in self.old) S event.now came.new }
         ensures stands { (S : Standing) → HasStanding self.old S
             → IsReadyFor (catalog_in self.old) (site_in self.old) (tables_in self.old) S event.now ready.now
-            → HasStanding self.new (stands_after (catalog_in self.old) (site_in self.old) S event.now result) }
+            → HasStanding self.new (stands_after (catalog_in self.old) (site_in self.old) S event.now came.new) }
         ensures tables { tables_in self.new ≡ tables_in self.old }
         ensures same { IsSameSite self.old self.new }
     {
         // Where it is known that there is no place for a record behind it, none is in flight.
         self.flight = MaybeRecord::none();
-        Came::only(self.alloc, fullness(event, need, left))
+        came.outcome = fullness(event, need, left);
     }
 
     /// What an event comes to that wants memory. The site stands as before.
-    pub fn want(&self, event: &Event) -> Came
-        ensures came { result ≡ only (want event.now) }
+    pub fn want(&self, event: &Event, came: &mut Came)
+        requires alone { IsOutcomeAlone came.old }
+        ensures came { came.new ≡ only (want event.now) }
         ensures comes { (layout : Layout) (S : Standing) → TakesMemory S.up event.now
-            → Comes (catalog_in self.now) layout (site_in self.now) S event.now result }
+            → Comes (catalog_in self.now) layout (site_in self.now) S event.now came.new }
         ensures stands { (S : Standing) → HasStanding self.now S → TakesMemory S.up event.now
-            → HasStanding self.now (stands_after (catalog_in self.now) (site_in self.now) S event.now result) }
+            → HasStanding self.now (stands_after (catalog_in self.now) (site_in self.now) S event.now came.new) }
     {
-        Came::only(self.alloc, want(event))
+        came.outcome = want(event);
     }
 
     /// What a restart comes to that takes no epoch. The site stands as before.
-    pub fn rest(&self, outcome: Outcome) -> Came
-        requires { IsRest outcome }
-        ensures came { result ≡ only outcome }
+    pub fn rest(&self, outcome: Outcome, came: &mut Came)
+        requires rest { IsRest outcome }
+        requires alone { IsOutcomeAlone came.old }
+        ensures came { came.new ≡ only outcome }
         ensures stands { (S : Standing) → HasStanding self.now S → S.up ≡ false
-            → HasStanding self.now (stands_after (catalog_in self.now) (site_in self.now) S happens.Restart result) }
+            → HasStanding self.now (stands_after (catalog_in self.now) (site_in self.now) S happens.Restart came.new) }
     {
-        Came::only(self.alloc, outcome)
+        came.outcome = outcome;
     }
 }

@@ -2,6 +2,7 @@ ghost use Rattle.std.specs.Prelude.{◌≡◌, ◌≢◌, ◌≤◌, ◌<◌, �
 ghost use Rattle.walter_base.specs.declared.names.Tid.{Tid as Named};
 ghost use Rattle.walter_base.specs.Vectors.{most_sites};
 ghost use Rattle.walter_machine.specs.Debts.{IsDebtOf, gone_first};
+ghost use Rattle.walter_machine.specs.declared.ready.Kind.TheVariants as kind;
 ghost use Rattle.walter_machine.specs.Readiness.{IsReadyFor, IsReadyAnyway, rec_in, step_in};
 ghost use Rattle.walter_machine.specs.States.{IsUp};
 ghost use Rattle.walter_machine.specs.Steps.{Answer, Fall};
@@ -28,14 +29,14 @@ pub fn make_answer(alloc: Global, ready: &mut Ready, outcome: Outcome)
     ensures step { step_in ready.new ≡ Answer outcome }
     ensures frames { ready.new.frames.items ≡ [] }
 {
+    make_fall(alloc, ready);
     ready.kind = Kind::Answer;
     ready.plan.planned.outcome = outcome;
-    ready.rec = MaybeRecord::none();
-    ready.frames = Vec::new(alloc);
 }
 
 /// The fall of a site is ready.
 pub fn make_fall(alloc: Global, ready: &mut Ready)
+    ensures kind { ready.new.kind ≡ kind.Fall }
     ensures step { step_in ready.new ≡ Fall }
     ensures frames { ready.new.frames.items ≡ [] }
 {
@@ -117,9 +118,8 @@ fn plan(
     ensures countable { OnOk result (IsSome (rec_in ready.new) → records + 1 < 2 ^ 64) }
     ensures standing { IsStanding site.old }
 {
-    // Where memory runs out, nothing is ready.
-    ready.kind = Kind::Fall;
-    ready.rec = MaybeRecord::none();
+    // Where memory runs out, no record is ready.
+    make_fall(alloc, ready);
     site.plan(input, &mut ready.plan)?;
     ready.frames = frame_all(alloc, &ready.plan.planned.sends, sites)?;
     ready.rec = copy_any(alloc, &ready.plan.planned.rec, records)?;

@@ -16,6 +16,21 @@ use Rattle.walter_outbox.specs.Lanes.{put_to, out_rings, mets, met_to, posted, s
 use Rattle.walter_outbox.proofs.Carried.{behind, behind_last, put_last, drop_last}
 use Rattle.walter_outbox.proofs.Fields.{field_read, field_set_same, field_set_other, field_kept}
 
+-- ---- no packet
+
+-- where there are no frames, there is nothing to put out
+pub none_sent : {A : Type 0} (frames : List A) (sends : List Send) → length frames ≡ length sends
+    → length frames ≡ 0 → sends ≡ []
+none_sent frames [] same none = refl
+none_sent frames (s ∷ sends) same none = absurd (omega (arith, same, none))
+
+pub none_more : (sites stamp : ℕ) (outs : List Sending) → HavePutMore sites stamp outs outs []
+none_more sites stamp outs = record {
+  rings = refl;
+  same_mets = refl;
+  each = λ k below. sym (append-nil (put_to outs k));
+}
+
 -- ---- one packet
 
 -- a packet was put on the lane at this place

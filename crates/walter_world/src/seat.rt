@@ -16,7 +16,7 @@ use crate::replaying::{Recovery, replay, told_by};
 use std::alloc::Global;
 use walter_base::{Mem, NoMemory};
 use walter_machine::{BootFault, Machine, Ready};
-use walter_rules::{Came, Entry, Event};
+use walter_rules::{Came, Entry, Event, Outcome};
 use walter_tables::Tables;
 
 /// A site without a disk, with its trail.
@@ -71,11 +71,15 @@ impl Seat {
         if self.machine.is_up() {
             let mut ready = Ready::none(alloc);
             self.machine.prepare(event, &mut ready)?;
-            return Ok(come(&mut self.machine, event, ready, fate));
+            return Ok(come(alloc, &mut self.machine, event, ready, fate));
         }
         match event {
             Event::Restart => self.rise(alloc, keeps, fate),
-            _ => Ok(self.machine.decline(event)),
+            _ => {
+                let mut came = Came::only(alloc, Outcome::Passed);
+                self.machine.decline(event, &mut came);
+                Ok(came)
+            }
         }
     }
 
@@ -92,7 +96,7 @@ impl Seat {
         let ready = boot(alloc, tables)?;
         self.machine.make_room()?;
         let kept = self.machine.settle(count);
-        let came = come(&mut self.machine, &Event::Restart, ready, fate);
+        let came = come(alloc, &mut self.machine, &Event::Restart, ready, fate);
         Ok(Came { kept, ..came })
     }
 
@@ -136,7 +140,7 @@ fn boot(alloc: Global, tables: Tables) -> Mem<Ready>
 }
 
 // What comes of the event that this is ready for: its record is stable, or it meets a fault.
-fn come(machine: &mut Machine, event: &Event, mut ready: Ready, fate: Fate) -> Came
+fn come(alloc: Global, machine: &mut Machine, event: &Event, mut ready: Ready, fate: Fate) -> Came
     requires room { is_up machine.old ≡ false → HasRoom machine.old }
     requires countable { IsCountable machine.old ready }
     requires anyway { IsReadyAnyway (catalog_in machine.old) (site_in machine.old) (tables_in machine.old) event.now
@@ -145,10 +149,13 @@ fn come(machine: &mut Machine, event: &Event, mut ready: Ready, fate: Fate) -> C
         → IsReadyFor (catalog_in machine.old) (site_in machine.old) (tables_in machine.old) S event.now ready
         → HasCome (catalog_in machine.old) (site_in machine.old) S event.now None fate result machine.new }
 {
+    let mut came = Came::only(alloc, Outcome::Passed);
     if breaks(fate, &ready) {
-        return machine.fail(event, &mut ready);
+        machine.fail(event, &mut ready, &mut came);
+        return came;
     }
-    machine.keep(event, &mut ready).0
+    machine.keep(event, &mut ready, &mut came);
+    came
 }
 
 // Whether there is a record that meets a fault.

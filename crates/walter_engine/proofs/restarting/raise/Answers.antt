@@ -58,19 +58,19 @@ returns-in_default g c =
     let came = c.want.ensures.came in
     record {
       raises = λ layout S lies standing count.
-          raises_hindered {g = g.D.Disk} (catalog_in m) layout (site_in m) S c.args.book.now bodies lies g.met.D.Disk.size_is m1 room.same.catalog c.want.result
-          (same_parts (λ x k. HasStanding m1 (stands_after x k S Restart c.want.result)) (catalog_in m1) (catalog_in m) (site_in m1) (site_in m) (sym room.same.catalog) (sym room.same.id)
+          raises_hindered {g = g.D.Disk} (catalog_in m) layout (site_in m) S c.args.book.now bodies lies g.met.D.Disk.size_is m1 room.same.catalog c.want.new.came
+          (same_parts (λ x k. HasStanding m1 (stands_after x k S Restart c.want.new.came)) (catalog_in m1) (catalog_in m) (site_in m1) (site_in m) (sym room.same.catalog) (sym room.same.id)
           (c.want.ensures.stands S (room.stands S standing) (subst (λ up. TakesMemory up Restart) (sym lies.down) tt))) None tt came;
       any_moment = λ layout S lies.
           rests_next {g = g.D.Disk} (catalog_in m) layout (site_in m) S c.args.book.now bodies lies g.met.D.Disk.only_now;
       refused = tt;
       over = comes_hindered (catalog_in m) (site_in m) _ bodies _ _ None tt (ap (λ (x : Came). x.outcome) came);
       up = ap is_some (room.tables ∙ c.requires.down) ∙ sym (ap (λ (x : Came). up_after Restart x.outcome false) came);
-      sized = sized_as _ c.want.result _ came (sized_only _ Memory tt);
+      sized = sized_as _ c.want.new.came _ came (sized_only _ Memory tt);
       none_sent = ap (λ (x : Came). x.sends) came;
       none_dropped = ap (λ (x : Came). x.dropped) came;
       none_kept = ap (λ (x : Came). x.kept) came;
-      faults = faults_as c.want.result false _ _ (ap (λ (x : Came). is_faulty x.outcome) came) refl;
+      faults = faults_as c.want.new.came false _ _ (ap (λ (x : Came). is_faulty x.outcome) came) refl;
       arms = refl;
       tells = refl;
       device = record { all = rw (ap (λ (x : Came). x.wrote) came) tt; at_most = omega arith };
@@ -93,20 +93,20 @@ returns-in_default-spell_any g c =
     let came = wanting.ensures.came in
     record {
       raises = λ layout S lies standing count.
-          raises_wanting {g = g.D.Disk} (catalog_in m) layout (site_in m) S c.args.book.now (map (λ body. body.items) c.args.bodies.now) lies g.met.D.Disk.size_is m1 room.same.catalog wanting.result
-          (same_parts (λ x k. HasStanding m1 (stands_after x k S Restart wanting.result)) (catalog_in m1) (catalog_in m) (site_in m1) (site_in m) (sym room.same.catalog) (sym room.same.id)
+          raises_wanting {g = g.D.Disk} (catalog_in m) layout (site_in m) S c.args.book.now (map (λ body. body.items) c.args.bodies.now) lies g.met.D.Disk.size_is m1 room.same.catalog wanting.new.came
+          (same_parts (λ x k. HasStanding m1 (stands_after x k S Restart wanting.new.came)) (catalog_in m1) (catalog_in m) (site_in m1) (site_in m) (sym room.same.catalog) (sym room.same.id)
           (wanting.ensures.stands S (room.stands S standing) (subst (λ up. TakesMemory up Restart) (sym lies.down) tt))) c.spell_any.new.book same came;
       any_moment = λ layout S lies.
           stays_next {g = g.D.Disk} (catalog_in m) layout (site_in m) S Restart c.args.book.now lies.laid
           (stands_here {g = g.D.Disk} (catalog_in m) layout (site_in m) S c.args.book.now (map (λ body. body.items) c.args.bodies.now) lies) c.spell_any.new.book same;
       refused = tt;
-      over = subst (λ (o : Outcome). ComesOf (catalog_in m) (site_in m) (left_over (layout_of c.args.book.now) (map (λ body. body.items) c.args.bodies.now)) (map (λ body. body.items) c.args.bodies.now) wanting.result.wrote None o) (sym (ap (λ (x : Came). x.outcome) came)) refl;
+      over = subst (λ (o : Outcome). ComesOf (catalog_in m) (site_in m) (left_over (layout_of c.args.book.now) (map (λ body. body.items) c.args.bodies.now)) (map (λ body. body.items) c.args.bodies.now) wanting.new.came.wrote None o) (sym (ap (λ (x : Came). x.outcome) came)) refl;
       up = ap is_some (room.tables ∙ c.requires.down) ∙ sym (ap (λ (x : Came). up_after Restart x.outcome false) came);
-      sized = sized_as _ wanting.result _ came (sized_only _ Memory tt);
+      sized = sized_as _ wanting.new.came _ came (sized_only _ Memory tt);
       none_sent = ap (λ (x : Came). x.sends) came;
       none_dropped = ap (λ (x : Came). x.dropped) came;
       none_kept = ap (λ (x : Came). x.kept) came;
-      faults = faults_as wanting.result false _ _ (ap (λ (x : Came). is_faulty x.outcome) came) (ap (λ (d : DiskState). d.faults) same.disk);
+      faults = faults_as wanting.new.came false _ _ (ap (λ (x : Came). is_faulty x.outcome) came) (ap (λ (d : DiskState). d.faults) same.disk);
       arms = ap (λ (d : DiskState). d.arms) same.disk;
       tells = ap (λ (d : DiskState). is_some d.reads) same.disk;
       device = record { all = rw (ap (λ (x : Came). x.wrote) came) tt; at_most = omega (arith, same.book.device) };
@@ -135,21 +135,21 @@ returns-then-is_err g c =
     let calls = calls_before_same {g = g.D.Disk} c.args.book.now c.spell_any.new.book same bodies in
     record {
       raises = λ layout S lies standing count.
-          raises_unpacked {g = g.D.Disk} (catalog_in m) layout (site_in m) S c.args.book.now bodies lies g.met.D.Disk.size_is m1 room.same.catalog c.rest-then-is_err.result
-          (same_parts (λ x k. HasStanding m1 (stands_after x k S Restart c.rest-then-is_err.result)) (catalog_in m1) (catalog_in m) (site_in m1) (site_in m) (sym room.same.catalog) (sym room.same.id)
+          raises_unpacked {g = g.D.Disk} (catalog_in m) layout (site_in m) S c.args.book.now bodies lies g.met.D.Disk.size_is m1 room.same.catalog c.rest-then-is_err.new.came
+          (same_parts (λ x k. HasStanding m1 (stands_after x k S Restart c.rest-then-is_err.new.came)) (catalog_in m1) (catalog_in m) (site_in m1) (site_in m) (sym room.same.catalog) (sym room.same.id)
           (c.rest-then-is_err.ensures.stands S (room.stands S standing) lies.down)) c.spell_any.new.book same c.pack_any.new.book g.met.D.Disk.counts_now failed
           (c.pack_any.ensures.any_moment (same.book.stands bodies lies.stands)) (room.tables ∙ c.requires.down) came;
       any_moment = λ layout S lies.
           packed_next {g = g.D.Disk} (catalog_in m) layout (site_in m) S c.args.book.now bodies lies c.spell_any.new.book same (disk_of c.pack_any.new.book)
           (c.pack_any.ensures.any_moment (same.book.stands bodies lies.stands));
       refused = tt;
-      over = subst (λ (o : Outcome). ComesOf (catalog_in m) (site_in m) (left_over (layout_of c.args.book.now) bodies) bodies c.rest-then-is_err.result.wrote None o) (sym (ap (λ (x : Came). x.outcome) came)) refl;
+      over = subst (λ (o : Outcome). ComesOf (catalog_in m) (site_in m) (left_over (layout_of c.args.book.now) bodies) bodies c.rest-then-is_err.new.came.wrote None o) (sym (ap (λ (x : Came). x.outcome) came)) refl;
       up = ap is_some (room.tables ∙ c.requires.down) ∙ sym (ap (λ (x : Came). up_after Restart x.outcome false) came);
-      sized = sized_as _ c.rest-then-is_err.result _ came (sized_only _ Failed tt);
+      sized = sized_as _ c.rest-then-is_err.new.came _ came (sized_only _ Failed tt);
       none_sent = ap (λ (x : Came). x.sends) came;
       none_dropped = ap (λ (x : Came). x.dropped) came;
       none_kept = ap (λ (x : Came). x.kept) came;
-      faults = faults_as c.rest-then-is_err.result true _ _ (ap (λ (x : Came). is_faulty x.outcome) came)
+      faults = faults_as c.rest-then-is_err.new.came true _ _ (ap (λ (x : Came). is_faulty x.outcome) came)
           (subst (λ (d : DiskState). d.faults < (g.D.Disk.known (disk_of c.pack_any.new.book)).faults) same.disk failed.rises);
       arms = c.pack_any.ensures.arms ∙ ap (λ (d : DiskState). d.arms) same.disk;
       tells = c.pack_any.ensures.tells ∙ ap (λ (d : DiskState). is_some d.reads) same.disk;
@@ -157,8 +157,8 @@ returns-then-is_err g c =
       same = record { catalog = room.same.catalog; id = room.same.id };
     }
 
-pub put-came-requires-clause-anyway : goal.put-came-requires-clause-anyway
-put-came-requires-clause-anyway g c =
+pub put-requires-clause-anyway : goal.put-requires-clause-anyway
+put-requires-clause-anyway g c =
     let over = same_parts (λ x k. IsReadyOver x k (map (λ body. body.items) c.args.bodies.now) c.in-Ok.ready) c.catalog.result.now (catalog_in c.args.machine.now) c.id.result (site_in c.args.machine.now) (sym c.catalog.ensures) (sym c.id.ensures) c.in-Ok.ensures.ready in
     let m = c.args.machine.now in
     let m1 = c.make_room.new.self in
@@ -166,14 +166,14 @@ put-came-requires-clause-anyway g c =
     same_parts (λ x k. IsReadyAnyway x k (tables_in m1) Restart c.in-Ok.ready) (catalog_in m) (catalog_in m1) (site_in m) (site_in m1) room.same.catalog room.same.id
     (subst (λ (o : Option Tables). IsReadyAnyway (catalog_in m) (site_in m) o Restart c.in-Ok.ready) (sym (room.tables ∙ c.requires.down)) over.anyway)
 
-pub put-came-requires-clause-countable : goal.put-came-requires-clause-countable
-put-came-requires-clause-countable g c some =
+pub put-requires-clause-countable : goal.put-requires-clause-countable
+put-requires-clause-countable g c some =
     let m1 = c.make_room.new.self in
     let same : records_in m1 ≡ records_in c.args.machine.now = c.make_room.ensures.records in
     omega (arith, c.requires.countable)
 
-pub put-came-requires-clause-spelled : goal.put-came-requires-clause-spelled
-put-came-requires-clause-spelled g c =
+pub put-requires-clause-spelled : goal.put-requires-clause-spelled
+put-requires-clause-spelled g c =
     let packed = made c.pack_any.result (sym c.is_err.ensures.value ∙ c.if-is_err.false) c.pack_any.ensures.packed in
     spelled_packed {g = g.D.Disk} c.spell_any.new.book c.pack_any.new.book _ c.in-Ok-spell_any.body c.in-Ok-spell_any.ensures.spelled
     (c.in-Ok-spell_any.ensures.behind (map (λ body. body.items) c.args.bodies.now) c.requires.ready) packed.room
@@ -206,10 +206,10 @@ returns g c =
           let spelled = subst (λ (x : Catalog). AreSpelled x.sites S) (sym room.same.catalog) lies.spelled in
           let stands = room.stands S standing in
           record {
-            comes = inr (same_parts (λ x k. Comes x layout k S Restart c.put-came.result.0) (catalog_in m1) catalog (site_in m1) i (sym room.same.catalog) (sym room.same.id)
-                (c.put-came.ensures.comes layout S stands counted ready_for spelled kept));
-            leaves = same_parts (λ x k. IsLeft {g = g.D.Disk} layout c.put-came.new.machine (stands_after x k S Restart c.put-came.result.0) c.put-came.new.book) (catalog_in m1) catalog (site_in m1) i (sym room.same.catalog) (sym room.same.id)
-                (c.put-came.ensures.leaves layout S stands counted ready_for spelled kept);
+            comes = inr (same_parts (λ x k. Comes x layout k S Restart c.put.new.came) (catalog_in m1) catalog (site_in m1) i (sym room.same.catalog) (sym room.same.id)
+                (c.put.ensures.comes layout S stands counted ready_for spelled kept));
+            leaves = same_parts (λ x k. IsLeft {g = g.D.Disk} layout c.put.new.machine (stands_after x k S Restart c.put.new.came) c.put.new.book) (catalog_in m1) catalog (site_in m1) i (sym room.same.catalog) (sym room.same.id)
+                (c.put.ensures.leaves layout S stands counted ready_for spelled kept);
             last = tt;
             takes_none = λ last. absurd (over.left (ap (λ (K : Knowledge). K.epoch) knows ∙ last));
           };
@@ -220,29 +220,29 @@ returns g c =
           let kept = kept_here {g = g.D.Disk} catalog layout i S c.args.book.now bodies lies (shape_of c.args.book.now).sites
           (subst (IsFor (shape_of c.args.book.now).sites) lies.laid (for_shape (shape_of c.args.book.now) c.args.book.now.live))
           c.requires.sites c.spell_any.new.book c.pack_any.new.book same packed in
-          joined g.D.Disk.moment g.D.Disk.left_since (disk_of c.args.book.now) (disk_of c.pack_any.new.book) (disk_of c.put-came.new.book) (MayHaveNext catalog layout i S Restart None)
+          joined g.D.Disk.moment g.D.Disk.left_since (disk_of c.args.book.now) (disk_of c.pack_any.new.book) (disk_of c.put.new.book) (MayHaveNext catalog layout i S Restart None)
           (packed_next {g = g.D.Disk} catalog layout i S c.args.book.now bodies lies c.spell_any.new.book same (disk_of c.pack_any.new.book)
           (c.pack_any.ensures.any_moment (same.book.stands bodies lies.stands)))
-          (same_parts (λ x k. LeavesOnly g.D.Disk.moment g.D.Disk.left_since (disk_of c.pack_any.new.book) (disk_of c.put-came.new.book) (MayHaveNext x layout k S Restart None)) (catalog_in m1) catalog (site_in m1) i (sym room.same.catalog) (sym room.same.id)
-          (c.put-came.ensures.any_moment layout S ready_for kept));
+          (same_parts (λ x k. LeavesOnly g.D.Disk.moment g.D.Disk.left_since (disk_of c.pack_any.new.book) (disk_of c.put.new.book) (MayHaveNext x layout k S Restart None)) (catalog_in m1) catalog (site_in m1) i (sym room.same.catalog) (sym room.same.id)
+          (c.put.ensures.any_moment layout S ready_for kept));
       refused = tt;
       over = comes_of catalog i _ bodies ready over _ _
-          (subst (λ n. IsOutcomeOf Restart ready n c.put-came.result.0.outcome) (packed.left ∙ ap (λ (l : Layout). left_over l bodies) laid) c.put-came.ensures.outcome)
-          c.put-came.ensures.wrote;
-      up = c.put-came.ensures.up ∙ ap (λ (up : Bool). up_after Restart c.put-came.result.0.outcome up) (ap is_some down);
-      sized = subst (λ (x : Catalog). IsSized x.sites c.put-came.result.0) room.same.catalog c.put-came.ensures.sized;
-      none_sent = c.put-came.ensures.sent (rises _ _ ready _ over.anyway over.boots).1;
-      none_dropped = c.put-came.ensures.none_dropped;
-      none_kept = c.put-came.ensures.none_kept;
-      faults = same_faults c.put-came.result.0 _ _ _ (packed.faultless ∙ ap (λ (d : DiskState). d.faults) same.disk) c.put-came.ensures.faults;
-      arms = c.put-came.ensures.arms ∙ (c.pack_any.ensures.arms ∙ ap (λ (d : DiskState). d.arms) same.disk);
-      tells = c.put-came.ensures.tells ∙ (c.pack_any.ensures.tells ∙ ap (λ (d : DiskState). is_some d.reads) same.disk);
-      device = calls_behind c.put-came.result.0 _ _ _ _ (omega (arith, device, same.book.device, calls)) c.put-came.ensures.device;
-      same = record { catalog = c.put-came.ensures.same.catalog ∙ room.same.catalog; id = c.put-came.ensures.same.id ∙ room.same.id };
+          (subst (λ n. IsOutcomeOf Restart ready n c.put.new.came.outcome) (packed.left ∙ ap (λ (l : Layout). left_over l bodies) laid) c.put.ensures.outcome)
+          c.put.ensures.wrote;
+      up = c.put.ensures.up ∙ ap (λ (up : Bool). up_after Restart c.put.new.came.outcome up) (ap is_some down);
+      sized = subst (λ (x : Catalog). IsSized x.sites c.put.new.came) room.same.catalog c.put.ensures.sized;
+      none_sent = c.put.ensures.sent (rises _ _ ready _ over.anyway over.boots).1;
+      none_dropped = c.put.ensures.none_dropped;
+      none_kept = c.put.ensures.none_kept;
+      faults = same_faults c.put.new.came _ _ _ (packed.faultless ∙ ap (λ (d : DiskState). d.faults) same.disk) c.put.ensures.faults;
+      arms = c.put.ensures.arms ∙ (c.pack_any.ensures.arms ∙ ap (λ (d : DiskState). d.arms) same.disk);
+      tells = c.put.ensures.tells ∙ (c.pack_any.ensures.tells ∙ ap (λ (d : DiskState). is_some d.reads) same.disk);
+      device = calls_behind c.put.new.came _ _ _ _ (omega (arith, device, same.book.device, calls)) c.put.ensures.device;
+      same = record { catalog = c.put.ensures.same.catalog ∙ room.same.catalog; id = c.put.ensures.same.id ∙ room.same.id };
     }
 
-pub rest-requires : goal.rest-requires
-rest-requires g c = rw c.hindrance.ensures (hindered_is c.in-Err.why).0
+pub rest-requires-clause-rest : goal.rest-requires-clause-rest
+rest-requires-clause-rest g c = rw c.hindrance.ensures (hindered_is c.in-Err.why).0
 
 -- none is ready
 pub returns-in-Err : goal.returns-in-Err
@@ -252,7 +252,7 @@ returns-in-Err g c =
     let came = c.rest.ensures.came ∙ ap only c.hindrance.ensures in
     record {
       raises = λ layout S lies standing count.
-          raises_hindered {g = g.D.Disk} (catalog_in c.args.machine.now) layout (site_in c.args.machine.now) S c.args.book.now (map (λ body. body.items) c.args.bodies.now) lies g.met.D.Disk.size_is c.args.machine.now refl c.rest.result
+          raises_hindered {g = g.D.Disk} (catalog_in c.args.machine.now) layout (site_in c.args.machine.now) S c.args.book.now (map (λ body. body.items) c.args.bodies.now) lies g.met.D.Disk.size_is c.args.machine.now refl c.rest.new.came
           (c.rest.ensures.stands S standing lies.down) why refused came;
       any_moment = λ layout S lies.
           rests_next {g = g.D.Disk} (catalog_in c.args.machine.now) layout (site_in c.args.machine.now) S c.args.book.now (map (λ body. body.items) c.args.bodies.now) lies g.met.D.Disk.only_now;
@@ -260,11 +260,11 @@ returns-in-Err g c =
       over = comes_hindered (catalog_in c.args.machine.now) (site_in c.args.machine.now) _ (map (λ body. body.items) c.args.bodies.now) _ _ why refused
           (ap (λ (x : Came). x.outcome) came);
       up = ap is_some c.requires.down ∙ sym (ap (λ (x : Came). up_after Restart x.outcome false) came ∙ (hindered_is why).3);
-      sized = sized_as _ c.rest.result _ came (sized_only _ (hindered_by why) (hindered_is why).1);
+      sized = sized_as _ c.rest.new.came _ came (sized_only _ (hindered_by why) (hindered_is why).1);
       none_sent = ap (λ (x : Came). x.sends) came;
       none_dropped = ap (λ (x : Came). x.dropped) came;
       none_kept = ap (λ (x : Came). x.kept) came;
-      faults = faults_as c.rest.result false _ _ (ap (λ (x : Came). is_faulty x.outcome) came ∙ (hindered_is why).2) refl;
+      faults = faults_as c.rest.new.came false _ _ (ap (λ (x : Came). is_faulty x.outcome) came ∙ (hindered_is why).2) refl;
       arms = refl;
       tells = refl;
       device = record { all = rw (ap (λ (x : Came). x.wrote) came) tt; at_most = omega arith };

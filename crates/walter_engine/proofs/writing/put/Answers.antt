@@ -34,8 +34,8 @@ returns-in_default g c =
           c.keep.ensures.comes layout S ready_for (holds_none (FitsIn layout S) (rec_in c.args.ready.now) free);
       leaves = λ layout S standing counted ready_for spelled kept.
           leaves_kept {g = g.D.Disk} g.met.D.Disk.size_is (catalog_in c.args.machine.now) layout (site_in c.args.machine.now) S c.args.event.now spelled c.keep.new.self c.keep.ensures.same.catalog
-          c.keep.result.0 (c.keep.ensures.stands S standing counted ready_for) c.args.book.now kept
-          (ups_ruled (catalog_in c.args.machine.now) (site_in c.args.machine.now) S c.args.event.now c.keep.result.0
+          c.keep.new.came (c.keep.ensures.stands S standing counted ready_for) c.args.book.now kept
+          (ups_ruled (catalog_in c.args.machine.now) (site_in c.args.machine.now) S c.args.event.now c.keep.new.came
           (ap (λ (x : Came). x.outcome) came ∙ ap (λ (e : Expected). e.outcome) ready_for.rule)
           (sym (ap (λ (e : Expected). e.wrote) ready_for.rule) ∙ free))
           (ap (λ (x : Came). x.wrote) came ∙ free) (ap (λ (x : Came). x.flight) came);
@@ -46,15 +46,15 @@ returns-in_default g c =
       sent = λ none. ap (λ (x : Came). x.sends) came ∙ none;
       wrote = λ taken. ap (λ (x : Came). x.wrote) came;
       untouched = λ none. refl;
-      sized = sized_as _ c.keep.result.0 _ came c.requires.anyway.ready_for.sized;
+      sized = sized_as _ c.keep.new.came _ came c.requires.anyway.ready_for.sized;
       framed = c.keep.ensures.framed ∙ c.requires.anyway.ready_for.framed
           ∙ ap (λ (x : Came). map (λ (e : Send). frame_of (catalog_in c.args.machine.now).sites e.1) x.sends) (sym came);
       none_dropped = ap (λ (x : Came). x.dropped) came;
       none_kept = ap (λ (x : Came). x.kept) came;
-      faults = faults_as c.keep.result.0 false _ _ (ap (λ (x : Came). is_faulty x.outcome) came ∙ c.requires.anyway.ready_for.fine) refl;
+      faults = faults_as c.keep.new.came false _ _ (ap (λ (x : Came). is_faulty x.outcome) came ∙ c.requires.anyway.ready_for.fine) refl;
       arms = refl;
       tells = refl;
-      device = calls_as c.keep.result.0 None None _ _ (ap (λ (x : Came). x.wrote) came ∙ free) (ap (λ (x : Came). x.flight) came) refl;
+      device = calls_as c.keep.new.came None None _ _ (ap (λ (x : Came). x.wrote) came ∙ free) (ap (λ (x : Came). x.flight) came) refl;
       tidy = λ tick. subst (λ (t : Option Tables). IfSome t IsTidy) (sym (c.keep.ensures.tick tick));
       same = c.keep.ensures.same;
     }
@@ -83,7 +83,7 @@ returns-in-Ok g c =
           c.keep-in-Ok.ensures.comes layout S ready_for (fits_here (catalog_in c.args.machine.now) (site_in c.args.machine.now) (tables_in c.args.machine.now) S c.args.event.now c.args.ready.now ready_for s.0 s.1 {g = g.D.Disk} layout c.args.book.now kept can c.as_slice.result.now is c.in-Ok.ensures.ok.fits);
       leaves = λ layout S standing counted ready_for spelled kept.
           leaves_more {g = g.D.Disk} g.met.D.Disk.size_is (catalog_in c.args.machine.now) layout (site_in c.args.machine.now) S c.args.event.now spelled c.keep-in-Ok.new.self c.keep-in-Ok.ensures.same.catalog
-          c.keep-in-Ok.result.0 (c.keep-in-Ok.ensures.stands S standing counted ready_for) c.append.new.self c.args.book.now s.0 c.as_slice.result.now
+          c.keep-in-Ok.new.came (c.keep-in-Ok.ensures.stands S standing counted ready_for) c.append.new.self c.args.book.now s.0 c.as_slice.result.now
           kept is (has (catalog_in c.args.machine.now) (site_in c.args.machine.now) (tables_in c.args.machine.now) S c.args.event.now c.args.ready.now ready_for s.0 s.1 s.2.ranges) c.in-Ok.ensures.ok c.append.ensures.shape c.append.ensures.live
           (brings (catalog_in c.args.machine.now) (site_in c.args.machine.now) (tables_in c.args.machine.now) S c.args.event.now c.args.ready.now ready_for s.0 s.1)
           (ap (λ (x : Came). x.wrote) came ∙ s.1) (ap (λ (x : Came). x.flight) came);
@@ -95,16 +95,16 @@ returns-in-Ok g c =
       sent = λ none. ap (λ (x : Came). x.sends) came ∙ none;
       wrote = λ taken. ap (λ (x : Came). x.wrote) came;
       untouched = λ none. absurd (let e = sym none ∙ s.1 in cc);
-      sized = sized_as _ c.keep-in-Ok.result.0 _ came c.requires.anyway.ready_for.sized;
+      sized = sized_as _ c.keep-in-Ok.new.came _ came c.requires.anyway.ready_for.sized;
       framed = c.keep-in-Ok.ensures.framed ∙ c.requires.anyway.ready_for.framed
           ∙ ap (λ (x : Came). map (λ (e : Send). frame_of (catalog_in c.args.machine.now).sites e.1) x.sends) (sym came);
       none_dropped = ap (λ (x : Came). x.dropped) came;
       none_kept = ap (λ (x : Came). x.kept) came;
-      faults = faults_as c.keep-in-Ok.result.0 false _ _ (ap (λ (x : Came). is_faulty x.outcome) came ∙ c.requires.anyway.ready_for.fine)
+      faults = faults_as c.keep-in-Ok.new.came false _ _ (ap (λ (x : Came). is_faulty x.outcome) came ∙ c.requires.anyway.ready_for.fine)
           c.in-Ok.ensures.ok.faultless;
       arms = c.append.ensures.arms;
       tells = c.append.ensures.tells;
-      device = calls_as c.keep-in-Ok.result.0 (Some s.0) None _ _ (ap (λ (x : Came). x.wrote) came ∙ s.1)
+      device = calls_as c.keep-in-Ok.new.came (Some s.0) None _ _ (ap (λ (x : Came). x.wrote) came ∙ s.1)
           (ap (λ (x : Came). x.flight) came) c.in-Ok.ensures.device;
       tidy = λ tick. subst (λ (t : Option Tables). IfSome t IsTidy) (sym (c.keep-in-Ok.ensures.tick tick));
       same = c.keep-in-Ok.ensures.same;
@@ -121,13 +121,13 @@ returns-in-Err-Failed g c =
     let s = spelling_some {g = g.D.Disk} c.args.book.now (rec_in c.args.ready.now) c.args.body c.in-Some.body c.requires.spelled c.in-Some.is in
     let can = some_is CanBeRecorded (rec_in c.args.ready.now) s.0 s.1 c.requires.anyway.ready_for.sized.wrote in
     let is = c.as_slice.ensures ∙ s.2.is in
-    let came = some_is (λ rec. c.fail.result ≡ record (only (failure c.args.event.now rec)) { flight = Some rec }) (rec_in c.args.ready.now) s.0 s.1 c.fail.ensures.came in
+    let came = some_is (λ rec. c.fail.new.came ≡ record (only (failure c.args.event.now rec)) { flight = Some rec }) (rec_in c.args.ready.now) s.0 s.1 c.fail.ensures.came in
     let failed = failed_is c.append.result (need_of c.as_slice.result.now) (left_of c.args.book.now) _ _ c.append.ensures.full c.append.ensures.failed c.in-Err-Failed.field-0 c.in-Err-Failed.is c.in-Err-Failed.field-0-is in
     record {
       comes = λ layout S standing counted ready_for spelled kept. c.fail.ensures.comes layout S ready_for (fits_here (catalog_in c.args.machine.now) (site_in c.args.machine.now) (tables_in c.args.machine.now) S c.args.event.now c.args.ready.now ready_for s.0 s.1 {g = g.D.Disk} layout c.args.book.now kept can c.as_slice.result.now is failed.0);
       leaves = λ layout S standing counted ready_for spelled kept.
           leaves_flying {g = g.D.Disk} g.met.D.Disk.size_is (catalog_in c.args.machine.now) layout (site_in c.args.machine.now) S c.args.event.now spelled c.fail.new.self c.fail.ensures.same.catalog
-          c.fail.result (c.fail.ensures.stands S standing counted ready_for) c.append.new.self c.args.book.now s.0 c.as_slice.result.now
+          c.fail.new.came (c.fail.ensures.stands S standing counted ready_for) c.append.new.self c.args.book.now s.0 c.as_slice.result.now
           kept is (has (catalog_in c.args.machine.now) (site_in c.args.machine.now) (tables_in c.args.machine.now) S c.args.event.now c.args.ready.now ready_for s.0 s.1 s.2.ranges) g.met.D.Disk.counts_now failed.1
           (c.append.ensures.any_moment _ kept.stands) c.fail.ensures.down
           (ap (λ (x : Came). x.wrote) came) (ap (λ (x : Came). x.flight) came);
@@ -140,17 +140,17 @@ returns-in-Err-Failed g c =
       sent = λ none. ap (λ (x : Came). x.sends) came;
       wrote = λ taken. absurd (let e = sym (ap is_taken taken) ∙ ap (λ (x : Came). is_taken x.outcome) came ∙ (failure_is c.args.event.now s.0).4 in cc);
       untouched = λ none. absurd (let e = sym none ∙ s.1 in cc);
-      sized = sized_as _ c.fail.result _ came (sized_flying _ c.args.event.now s.0 can);
+      sized = sized_as _ c.fail.new.came _ came (sized_flying _ c.args.event.now s.0 can);
       framed =
-          let none : map (λ (e : Send). frame_of (catalog_in c.args.machine.now).sites e.1) c.fail.result.sends ≡ [] = ap (λ (x : Came). map (λ (e : Send). frame_of (catalog_in c.args.machine.now).sites e.1) x.sends) came in
+          let none : map (λ (e : Send). frame_of (catalog_in c.args.machine.now).sites e.1) c.fail.new.came.sends ≡ [] = ap (λ (x : Came). map (λ (e : Send). frame_of (catalog_in c.args.machine.now).sites e.1) x.sends) came in
           cc;
       none_dropped = ap (λ (x : Came). x.dropped) came;
       none_kept = ap (λ (x : Came). x.kept) came;
-      faults = faults_as c.fail.result true _ _ (ap (λ (x : Came). is_faulty x.outcome) came ∙ (failure_is c.args.event.now s.0).0)
+      faults = faults_as c.fail.new.came true _ _ (ap (λ (x : Came). is_faulty x.outcome) came ∙ (failure_is c.args.event.now s.0).0)
           failed.1.rises;
       arms = c.append.ensures.arms;
       tells = c.append.ensures.tells;
-      device = calls_as c.fail.result None (Some s.0) _ _ (ap (λ (x : Came). x.wrote) came) (ap (λ (x : Came). x.flight) came)
+      device = calls_as c.fail.new.came None (Some s.0) _ _ (ap (λ (x : Came). x.wrote) came) (ap (λ (x : Came). x.flight) came)
           c.append.ensures.at_most;
       tidy = λ tick was. subst (λ (t : Option Tables). IfSome t IsTidy) (sym c.fail.ensures.down) tt;
       same = c.fail.ensures.same;
@@ -176,9 +176,9 @@ returns g c =
           kept can c.as_slice.result.now is full.0 full.1 full.2);
       leaves = λ layout S standing counted ready_for spelled kept.
           leaves_kept {g = g.D.Disk} g.met.D.Disk.size_is (catalog_in c.args.machine.now) layout (site_in c.args.machine.now) S c.args.event.now spelled c.overflow.new.self c.overflow.ensures.same.catalog
-          c.overflow.result (c.overflow.ensures.stands S standing ready_for) c.append.new.self
+          c.overflow.new.came (c.overflow.ensures.stands S standing ready_for) c.append.new.self
           (subst (λ (b : Book g.row.D.Denot g.D.Disk). IsKept layout S b) (sym full.3) kept)
-          (ups_same (catalog_in c.args.machine.now) (site_in c.args.machine.now) S c.args.event.now c.overflow.result (fullness c.args.event.now c.in-Err-Full.need c.in-Err-Full.left)
+          (ups_same (catalog_in c.args.machine.now) (site_in c.args.machine.now) S c.args.event.now c.overflow.new.came (fullness c.args.event.now c.in-Err-Full.need c.in-Err-Full.left)
           (ap (λ (x : Came). x.outcome) came) ((fullness_is c.args.event.now c.in-Err-Full.need c.in-Err-Full.left).3 S.up))
           (ap (λ (x : Came). x.wrote) came) (ap (λ (x : Came). x.flight) came);
       any_moment = λ layout S ready_for kept.
@@ -197,17 +197,17 @@ returns g c =
       sent = λ none. ap (λ (x : Came). x.sends) came;
       wrote = λ taken. absurd (let e = sym (ap is_taken taken) ∙ ap (λ (x : Came). is_taken x.outcome) came ∙ (fullness_is c.args.event.now c.in-Err-Full.need c.in-Err-Full.left).4 in cc);
       untouched = λ none. absurd (let e = sym none ∙ s.1 in cc);
-      sized = sized_as _ c.overflow.result _ came (sized_only _ (fullness c.args.event.now c.in-Err-Full.need c.in-Err-Full.left) (fullness_is c.args.event.now c.in-Err-Full.need c.in-Err-Full.left).2);
+      sized = sized_as _ c.overflow.new.came _ came (sized_only _ (fullness c.args.event.now c.in-Err-Full.need c.in-Err-Full.left) (fullness_is c.args.event.now c.in-Err-Full.need c.in-Err-Full.left).2);
       framed =
-          let none : map (λ (e : Send). frame_of (catalog_in c.args.machine.now).sites e.1) c.overflow.result.sends ≡ [] = ap (λ (x : Came). map (λ (e : Send). frame_of (catalog_in c.args.machine.now).sites e.1) x.sends) came in
+          let none : map (λ (e : Send). frame_of (catalog_in c.args.machine.now).sites e.1) c.overflow.new.came.sends ≡ [] = ap (λ (x : Came). map (λ (e : Send). frame_of (catalog_in c.args.machine.now).sites e.1) x.sends) came in
           cc;
       none_dropped = ap (λ (x : Came). x.dropped) came;
       none_kept = ap (λ (x : Came). x.kept) came;
-      faults = faults_as c.overflow.result false _ _ (ap (λ (x : Came). is_faulty x.outcome) came ∙ (fullness_is c.args.event.now c.in-Err-Full.need c.in-Err-Full.left).0)
+      faults = faults_as c.overflow.new.came false _ _ (ap (λ (x : Came). is_faulty x.outcome) came ∙ (fullness_is c.args.event.now c.in-Err-Full.need c.in-Err-Full.left).0)
           (ap (λ (b : Book g.row.D.Denot g.D.Disk). (g.D.Disk.known (disk_of b)).faults) full.3);
       arms = c.append.ensures.arms;
       tells = c.append.ensures.tells;
-      device = calls_as c.overflow.result None None _ _ (ap (λ (x : Came). x.wrote) came) (ap (λ (x : Came). x.flight) came)
+      device = calls_as c.overflow.new.came None None _ _ (ap (λ (x : Came). x.wrote) came) (ap (λ (x : Came). x.flight) came)
           (ap (λ (b : Book g.row.D.Denot g.D.Disk). g.D.Disk.device_calls (disk_of b)) full.3);
       tidy = λ tick. subst (λ (t : Option Tables). IfSome t IsTidy) (sym c.overflow.ensures.tables);
       same = c.overflow.ensures.same;

@@ -36,7 +36,7 @@ returns-in-Ok g c =
           (MayHaveNext (catalog_in c.args.machine.now) layout (site_in c.args.machine.now) S c.args.event.now None)
           (stays_next {g = g.D.Disk} (catalog_in c.args.machine.now) layout (site_in c.args.machine.now) S c.args.event.now c.args.book.now kept.laid kept.stands c.spell_any.new.book same)
           (put.any_moment layout S ready_for (same_kept layout S _ _ same kept));
-      outcome = subst (λ left. IsOutcomeOf c.args.event.now c.args.ready.now left c.put.result.0.outcome) (same_left _ _ same) put.outcome;
+      outcome = subst (λ left. IsOutcomeOf c.args.event.now c.args.ready.now left c.put.new.came.outcome) (same_left _ _ same) put.outcome;
       up = put.up;
       sent = put.sent;
       wrote = put.wrote;
@@ -45,10 +45,10 @@ returns-in-Ok g c =
       framed = put.framed;
       none_dropped = put.none_dropped;
       none_kept = put.none_kept;
-      faults = same_faults c.put.result.0 _ _ _ (ap (λ (d : DiskState). d.faults) same.disk) put.faults;
+      faults = same_faults c.put.new.came _ _ _ (ap (λ (d : DiskState). d.faults) same.disk) put.faults;
       arms = put.arms ∙ ap (λ (d : DiskState). d.arms) same.disk;
       tells = put.tells ∙ ap (λ (d : DiskState). is_some d.reads) same.disk;
-      device = same_calls c.put.result.0 _ _ _ same.book.device put.device;
+      device = same_calls c.put.new.came _ _ _ same.book.device put.device;
       tidy = put.tidy;
       same = put.same;
     }
@@ -63,8 +63,8 @@ returns-in-Err g c =
           c.want.ensures.comes layout S (takes_memory (rec_in c.args.ready.now) _ c.in-Err.ensures.free ready_for.takes);
       leaves = λ layout S standing counted ready_for spelled kept.
           leaves_kept {g = g.D.Disk} g.met.D.Disk.size_is (catalog_in c.args.machine.now) layout (site_in c.args.machine.now) S c.args.event.now spelled c.args.machine.now refl
-          c.want.result (c.want.ensures.stands S standing (takes_memory (rec_in c.args.ready.now) _ c.in-Err.ensures.free ready_for.takes)) c.spell_any.new.book (same_kept layout S _ _ same kept)
-          (ups_same (catalog_in c.args.machine.now) (site_in c.args.machine.now) S c.args.event.now c.want.result (want c.args.event.now) (ap (λ (x : Came). x.outcome) came) ((want_is c.args.event.now).3 S.up))
+          c.want.new.came (c.want.ensures.stands S standing (takes_memory (rec_in c.args.ready.now) _ c.in-Err.ensures.free ready_for.takes)) c.spell_any.new.book (same_kept layout S _ _ same kept)
+          (ups_same (catalog_in c.args.machine.now) (site_in c.args.machine.now) S c.args.event.now c.want.new.came (want c.args.event.now) (ap (λ (x : Came). x.outcome) came) ((want_is c.args.event.now).3 S.up))
           (ap (λ (x : Came). x.wrote) came) (ap (λ (x : Came). x.flight) came);
       any_moment = λ layout S ready_for kept.
           stays_next {g = g.D.Disk} (catalog_in c.args.machine.now) layout (site_in c.args.machine.now) S c.args.event.now c.args.book.now kept.laid kept.stands c.spell_any.new.book same;
@@ -73,17 +73,17 @@ returns-in-Err g c =
       sent = λ none. ap (λ (x : Came). x.sends) came;
       wrote = λ taken. absurd (let e = sym (ap is_taken taken) ∙ ap (λ (x : Came). is_taken x.outcome) came ∙ (want_is c.args.event.now).4 in cc);
       untouched = λ none. absurd (let e = sym c.in-Err.ensures.free ∙ ap is_some none in cc);
-      sized = sized_as _ c.want.result _ came (sized_only _ (want c.args.event.now) (want_is c.args.event.now).2);
+      sized = sized_as _ c.want.new.came _ came (sized_only _ (want c.args.event.now) (want_is c.args.event.now).2);
       framed =
-          let none : map (λ (e : Send). frame_of (catalog_in c.args.machine.now).sites e.1) c.want.result.sends ≡ [] = ap (λ (x : Came). map (λ (e : Send). frame_of (catalog_in c.args.machine.now).sites e.1) x.sends) came in
+          let none : map (λ (e : Send). frame_of (catalog_in c.args.machine.now).sites e.1) c.want.new.came.sends ≡ [] = ap (λ (x : Came). map (λ (e : Send). frame_of (catalog_in c.args.machine.now).sites e.1) x.sends) came in
           cc;
       none_dropped = ap (λ (x : Came). x.dropped) came;
       none_kept = ap (λ (x : Came). x.kept) came;
-      faults = faults_as c.want.result false _ _ (ap (λ (x : Came). is_faulty x.outcome) came ∙ (want_is c.args.event.now).0)
+      faults = faults_as c.want.new.came false _ _ (ap (λ (x : Came). is_faulty x.outcome) came ∙ (want_is c.args.event.now).0)
           (ap (λ (d : DiskState). d.faults) same.disk);
       arms = ap (λ (d : DiskState). d.arms) same.disk;
       tells = ap (λ (d : DiskState). is_some d.reads) same.disk;
-      device = calls_as c.want.result None None _ _ (ap (λ (x : Came). x.wrote) came) (ap (λ (x : Came). x.flight) came) same.book.device;
+      device = calls_as c.want.new.came None None _ _ (ap (λ (x : Came). x.wrote) came) (ap (λ (x : Came). x.flight) came) same.book.device;
       tidy = λ tick was. was;
       same = record { catalog = refl; id = refl };
     }

@@ -42,47 +42,47 @@ returns-in_default-prepare g c =
                 let standing = c.prepare.ensures.stands S stands.machine in
                 let stored = subst (λ o. IsStored {g = g.D.Disk} layout S o c.args.self.now.disk) was stands.stored in
                 let spelled = subst (λ (x : Catalog). AreSpelled x.sites S) (sym c.prepare.ensures.same.catalog) stands.spelled in
-                let left = leaves_kept {g = g.D.Disk} g.met.D.Disk.size_is (catalog_in c.prepare.new.self) layout (site_in c.prepare.new.self) S c.args.event.now spelled c.prepare.new.self refl c.want.result
-                (c.want.ensures.stands S standing takes) c.in-Some.book stored (ups_same (catalog_in c.prepare.new.self) (site_in c.prepare.new.self) S c.args.event.now c.want.result (want c.args.event.now) (ap (λ (x : Came). x.outcome) came) ((want_is c.args.event.now).3 S.up)) (ap (λ (x : Came). x.wrote) came) (ap (λ (x : Came). x.flight) came) in
+                let left = leaves_kept {g = g.D.Disk} g.met.D.Disk.size_is (catalog_in c.prepare.new.self) layout (site_in c.prepare.new.self) S c.args.event.now spelled c.prepare.new.self refl c.want.new.came
+                (c.want.ensures.stands S standing takes) c.in-Some.book stored (ups_same (catalog_in c.prepare.new.self) (site_in c.prepare.new.self) S c.args.event.now c.want.new.came (want c.args.event.now) (ap (λ (x : Came). x.outcome) came) ((want_is c.args.event.now).3 S.up)) (ap (λ (x : Came). x.wrote) came) (ap (λ (x : Came). x.flight) came) in
                 let book_is = ap (λ (b : Bool). book_if b c.in-Some.book) (sym c.prepare.ensures.up) in
                 let disk_is = none_of c.args.self.now.disk (c.args.self.now.bare ∙ ap not c.requires.up) ∙ ap (λ (b : Bool). disk_if {g = g.D.Disk} b c.in-Some.book) (sym c.prepare.ensures.up) in
-                let comes = same_parts (λ x k. Comes x layout k S c.args.event.now c.want.result) (catalog_in c.prepare.new.self) (catalog_in c.args.self.now.machine) (site_in c.prepare.new.self) (site_in c.args.self.now.machine) (sym c.prepare.ensures.same.catalog) (sym c.prepare.ensures.same.id)
+                let comes = same_parts (λ x k. Comes x layout k S c.args.event.now c.want.new.came) (catalog_in c.prepare.new.self) (catalog_in c.args.self.now.machine) (site_in c.prepare.new.self) (site_in c.args.self.now.machine) (sym c.prepare.ensures.same.catalog) (sym c.prepare.ensures.same.id)
                 (c.want.ensures.comes layout S takes) in
-                let left_here = same_parts (λ x k. IsLeft {g = g.D.Disk} layout c.prepare.new.self (stands_after x k S c.args.event.now c.want.result) c.in-Some.book) (catalog_in c.prepare.new.self) (catalog_in c.args.self.now.machine) (site_in c.prepare.new.self) (site_in c.args.self.now.machine) (sym c.prepare.ensures.same.catalog) (sym c.prepare.ensures.same.id) left in
-                come_as {g = g.D.Disk} (catalog_in c.args.self.now.machine) layout (site_in c.args.self.now.machine) S c.args.event.now c.want.result _ (ap (λ (x : Came). x.kept) came)
+                let left_here = same_parts (λ x k. IsLeft {g = g.D.Disk} layout c.prepare.new.self (stands_after x k S c.args.event.now c.want.new.came) c.in-Some.book) (catalog_in c.prepare.new.self) (catalog_in c.args.self.now.machine) (site_in c.prepare.new.self) (site_in c.args.self.now.machine) (sym c.prepare.ensures.same.catalog) (sym c.prepare.ensures.same.id) left in
+                come_as {g = g.D.Disk} (catalog_in c.args.self.now.machine) layout (site_in c.args.self.now.machine) S c.args.event.now c.want.new.came _ (ap (λ (x : Came). x.kept) came)
                 (λ down restart. absurd (let e = sym (up ∙ c.requires.up) ∙ down in cc)) comes
                 (stands_left {g = g.D.Disk} _ _ c.in-Some.book layout same_layout left_here book_is disk_is);
             any_moment = λ S stands.
                 rw before
-                (unmoved_next {g = g.D.Disk} g.met.D.Disk.only_now c.in-Some.book (catalog_in c.args.self.now.machine) layout (site_in c.args.self.now.machine) S c.args.event.now c.want.result.kept (subst (λ o. IsStored {g = g.D.Disk} layout S o c.args.self.now.disk) was stands.stored));
+                (unmoved_next {g = g.D.Disk} g.met.D.Disk.only_now c.in-Some.book (catalog_in c.args.self.now.machine) layout (site_in c.args.self.now.machine) S c.args.event.now c.want.new.came.kept (subst (λ o. IsStored {g = g.D.Disk} layout S o c.args.self.now.disk) was stands.stored));
             refused = always (λ (bytes : List ℕ). Unit {0}) (g.D.Disk.known (disk_of c.in-Some.book)).reads (λ bytes. tt);
             why = λ refused. absurd (let e = sym (ap is_refusal refused) ∙ ap (λ (x : Came). is_refusal x.outcome) came ∙ (want_is c.args.event.now).1 in cc);
-            sized = sized_as _ c.want.result _ came (sized_only _ (want c.args.event.now) (want_is c.args.event.now).2);
+            sized = sized_as _ c.want.new.came _ came (sized_only _ (want c.args.event.now) (want_is c.args.event.now).2);
             framed =
-                let none : map (λ (s : Send). frame_of (catalog_in c.args.self.now.machine).sites s.1) c.want.result.sends ≡ [] = ap (λ (x : Came). map (λ (s : Send). frame_of (catalog_in c.args.self.now.machine).sites s.1) x.sends) came in
+                let none : map (λ (s : Send). frame_of (catalog_in c.args.self.now.machine).sites s.1) c.want.new.came.sends ≡ [] = ap (λ (x : Came). map (λ (s : Send). frame_of (catalog_in c.args.self.now.machine).sites s.1) x.sends) came in
                 cc;
             none_dropped = ap (λ (x : Came). x.dropped) came;
             faults = rw before
-                (faults_as c.want.result false _ _ (ap (λ (x : Came). is_faulty x.outcome) came ∙ (want_is c.args.event.now).0) refl);
+                (faults_as c.want.new.came false _ _ (ap (λ (x : Came). is_faulty x.outcome) came ∙ (want_is c.args.event.now).0) refl);
             arms = rw before refl;
             tells = rw before refl;
             engine = record { catalog = c.prepare.ensures.same.catalog; site = c.prepare.ensures.same.id; capacity = refl; layout = same_layout };
           };
       device =
           rw before
-          (calls_as c.want.result None None _ _ (ap (λ (x : Came). x.wrote) came) (ap (λ (x : Came). x.flight) came) refl);
+          (calls_as c.want.new.came None None _ _ (ap (λ (x : Came). x.wrote) came) (ap (λ (x : Came). x.flight) came) refl);
       stops = λ stop. sym before;
       tidy = c.prepare.ensures.tidy;
     }
 
-pub write-came-requires-clause-room : goal.write-came-requires-clause-room
-write-came-requires-clause-room g c down = absurd (let e = sym c.prepare.ensures.up ∙ down in cc)
+pub write-frames-requires-clause-room : goal.write-frames-requires-clause-room
+write-frames-requires-clause-room g c down = absurd (let e = sym c.prepare.ensures.up ∙ down in cc)
 
 pub returns : goal.returns
 returns g c =
     let layout = layout_for c.args.self.now.areas c.args.self.now.capacity (catalog_in c.args.self.now.machine).sites in
-    let same_layout : layout_for c.args.self.now.areas c.args.self.now.capacity (catalog_in c.write-came.new.machine).sites ≡ layout =
-    ap (λ (x : Catalog). layout_for c.args.self.now.areas c.args.self.now.capacity x.sites) (c.write-came.ensures.same.catalog ∙ c.prepare.ensures.same.catalog) in
+    let same_layout : layout_for c.args.self.now.areas c.args.self.now.capacity (catalog_in c.write-frames.new.machine).sites ≡ layout =
+    ap (λ (x : Catalog). layout_for c.args.self.now.areas c.args.self.now.capacity x.sites) (c.write-frames.ensures.same.catalog ∙ c.prepare.ensures.same.catalog) in
     let was = c.in-Some.is in
     let before = ap (λ o. disk_under {g = g.D.Disk} o c.args.self.now.disk) was in
     let now = c.close_unless.ensures.same in
@@ -97,46 +97,46 @@ returns g c =
                 let ready_for = (same_parts (λ x k. IsReadyFor x k (tables_in c.prepare.new.self) S c.args.event.now c.prepare.new.ready) (catalog_in c.args.self.now.machine) (catalog_in c.prepare.new.self) (site_in c.args.self.now.machine) (site_in c.prepare.new.self) c.prepare.ensures.same.catalog c.prepare.ensures.same.id
                 (c.in-Ok.ensures.ready S stands.machine)) in
                 let counted = counted_up c.prepare.new.self S (rec_in c.prepare.new.ready) (up ∙ c.requires.up) standing in
-                let book_is = c.close_unless.ensures.book ∙ ap (λ (b : Bool). book_if b c.write-came.new.book) c.is_up.ensures in
-                let disk_is = c.close_unless.ensures.bare ∙ ap (λ (b : Bool). disk_if {g = g.D.Disk} b c.write-came.new.book) c.is_up.ensures in
-                let comes = same_parts (λ x k. Comes x layout k S c.args.event.now c.write-came.result.0) (catalog_in c.prepare.new.self) (catalog_in c.args.self.now.machine) (site_in c.prepare.new.self) (site_in c.args.self.now.machine) (sym c.prepare.ensures.same.catalog) (sym c.prepare.ensures.same.id)
-                (c.write-came.ensures.comes layout S standing counted ready_for spelled stored) in
-                let left = same_parts (λ x k. IsLeft {g = g.D.Disk} layout c.write-came.new.machine (stands_after x k S c.args.event.now c.write-came.result.0) c.write-came.new.book) (catalog_in c.prepare.new.self) (catalog_in c.args.self.now.machine) (site_in c.prepare.new.self) (site_in c.args.self.now.machine) (sym c.prepare.ensures.same.catalog) (sym c.prepare.ensures.same.id)
-                (c.write-came.ensures.leaves layout S standing counted ready_for spelled stored) in
-                come_as {g = g.D.Disk} (catalog_in c.args.self.now.machine) layout (site_in c.args.self.now.machine) S c.args.event.now c.write-came.result.0 _ c.write-came.ensures.none_kept
+                let book_is = c.close_unless.ensures.book ∙ ap (λ (b : Bool). book_if b c.write-frames.new.book) c.is_up.ensures in
+                let disk_is = c.close_unless.ensures.bare ∙ ap (λ (b : Bool). disk_if {g = g.D.Disk} b c.write-frames.new.book) c.is_up.ensures in
+                let comes = same_parts (λ x k. Comes x layout k S c.args.event.now c.write-frames.new.came) (catalog_in c.prepare.new.self) (catalog_in c.args.self.now.machine) (site_in c.prepare.new.self) (site_in c.args.self.now.machine) (sym c.prepare.ensures.same.catalog) (sym c.prepare.ensures.same.id)
+                (c.write-frames.ensures.comes layout S standing counted ready_for spelled stored) in
+                let left = same_parts (λ x k. IsLeft {g = g.D.Disk} layout c.write-frames.new.machine (stands_after x k S c.args.event.now c.write-frames.new.came) c.write-frames.new.book) (catalog_in c.prepare.new.self) (catalog_in c.args.self.now.machine) (site_in c.prepare.new.self) (site_in c.args.self.now.machine) (sym c.prepare.ensures.same.catalog) (sym c.prepare.ensures.same.id)
+                (c.write-frames.ensures.leaves layout S standing counted ready_for spelled stored) in
+                come_as {g = g.D.Disk} (catalog_in c.args.self.now.machine) layout (site_in c.args.self.now.machine) S c.args.event.now c.write-frames.new.came _ c.write-frames.ensures.none_kept
                 (λ down restart. absurd (let e = sym (up ∙ c.requires.up) ∙ down in cc)) comes
-                (stands_left {g = g.D.Disk} _ _ c.write-came.new.book layout same_layout left book_is disk_is);
+                (stands_left {g = g.D.Disk} _ _ c.write-frames.new.book layout same_layout left book_is disk_is);
             any_moment = λ S stands.
                 let ready_for = (same_parts (λ x k. IsReadyFor x k (tables_in c.prepare.new.self) S c.args.event.now c.prepare.new.ready) (catalog_in c.args.self.now.machine) (catalog_in c.prepare.new.self) (site_in c.args.self.now.machine) (site_in c.prepare.new.self) c.prepare.ensures.same.catalog c.prepare.ensures.same.id
                 (c.in-Ok.ensures.ready S stands.machine)) in
                 rw (before, c.close_unless.ensures.same)
-                (same_parts (λ x k. LeavesOnly g.D.Disk.moment g.D.Disk.left_since (disk_of c.in-Some.book) (disk_of c.write-came.new.book) (MayHaveNext x layout k S c.args.event.now c.write-came.result.0.kept))
+                (same_parts (λ x k. LeavesOnly g.D.Disk.moment g.D.Disk.left_since (disk_of c.in-Some.book) (disk_of c.write-frames.new.book) (MayHaveNext x layout k S c.args.event.now c.write-frames.new.came.kept))
                 (catalog_in c.prepare.new.self) (catalog_in c.args.self.now.machine) (site_in c.prepare.new.self) (site_in c.args.self.now.machine) (sym c.prepare.ensures.same.catalog) (sym c.prepare.ensures.same.id)
-                (subst (λ (o : Option Record). LeavesOnly g.D.Disk.moment g.D.Disk.left_since (disk_of c.in-Some.book) (disk_of c.write-came.new.book) (MayHaveNext (catalog_in c.prepare.new.self) layout (site_in c.prepare.new.self) S c.args.event.now o))
-                (sym c.write-came.ensures.none_kept) (c.write-came.ensures.any_moment layout S ready_for (subst (λ o. IsStored {g = g.D.Disk} layout S o c.args.self.now.disk) was stands.stored))));
+                (subst (λ (o : Option Record). LeavesOnly g.D.Disk.moment g.D.Disk.left_since (disk_of c.in-Some.book) (disk_of c.write-frames.new.book) (MayHaveNext (catalog_in c.prepare.new.self) layout (site_in c.prepare.new.self) S c.args.event.now o))
+                (sym c.write-frames.ensures.none_kept) (c.write-frames.ensures.any_moment layout S ready_for (subst (λ o. IsStored {g = g.D.Disk} layout S o c.args.self.now.disk) was stands.stored))));
             refused = always (λ d. IfSome (g.D.Disk.known d).reads (λ bytes. Unit {0}))
                 (disk_under c.close_unless.new.book c.close_unless.new.disk)
                 (λ d. always (λ (bytes : List ℕ). Unit {0}) (g.D.Disk.known d).reads (λ bytes. tt));
             why = λ refused. absurd (let e = sym (ap is_refusal refused)
-                ∙ unrefused _ _ _ c.args.event.now c.prepare.new.ready _ _ c.in-Ok.ensures.anyway c.write-came.ensures.outcome in cc);
-            sized = subst (λ (x : Catalog). IsSized x.sites c.write-came.result.0) c.prepare.ensures.same.catalog c.write-came.ensures.sized;
-            framed = subst (λ (x : Catalog). c.write-came.result.1.items ≡ map (λ (s : Send). frame_of x.sites s.1) c.write-came.result.0.sends)
-                c.prepare.ensures.same.catalog c.write-came.ensures.framed;
-            none_dropped = c.write-came.ensures.none_dropped;
-            faults = rw (before, c.close_unless.ensures.same) c.write-came.ensures.faults;
-            arms = rw (before, c.close_unless.ensures.same) c.write-came.ensures.arms;
-            tells = rw (before, c.close_unless.ensures.same) c.write-came.ensures.tells;
+                ∙ unrefused _ _ _ c.args.event.now c.prepare.new.ready _ _ c.in-Ok.ensures.anyway c.write-frames.ensures.outcome in cc);
+            sized = subst (λ (x : Catalog). IsSized x.sites c.write-frames.new.came) c.prepare.ensures.same.catalog c.write-frames.ensures.sized;
+            framed = subst (λ (x : Catalog). c.write-frames.result.items ≡ map (λ (s : Send). frame_of x.sites s.1) c.write-frames.new.came.sends)
+                c.prepare.ensures.same.catalog c.write-frames.ensures.framed;
+            none_dropped = c.write-frames.ensures.none_dropped;
+            faults = rw (before, c.close_unless.ensures.same) c.write-frames.ensures.faults;
+            arms = rw (before, c.close_unless.ensures.same) c.write-frames.ensures.arms;
+            tells = rw (before, c.close_unless.ensures.same) c.write-frames.ensures.tells;
             engine = record {
-              catalog = c.write-came.ensures.same.catalog ∙ c.prepare.ensures.same.catalog;
-              site = c.write-came.ensures.same.id ∙ c.prepare.ensures.same.id;
+              catalog = c.write-frames.ensures.same.catalog ∙ c.prepare.ensures.same.catalog;
+              site = c.write-frames.ensures.same.id ∙ c.prepare.ensures.same.id;
               capacity = refl;
               layout = same_layout;
             };
           };
-      device = rw (before, c.close_unless.ensures.same) c.write-came.ensures.device;
+      device = rw (before, c.close_unless.ensures.same) c.write-frames.ensures.device;
       stops = λ stop.
           let none = ap (λ (e : Expected). e.wrote) c.in-Ok.ensures.anyway.ready_for.rule
           ∙ ap (λ e. (rule (catalog_in c.args.self.now.machine) (site_in c.args.self.now.machine) c.in-Ok.ensures.anyway.S e).wrote) stop ∙ stop_brings (catalog_in c.args.self.now.machine) (site_in c.args.self.now.machine) c.in-Ok.ensures.anyway.S in
-          now ∙ ap Some (c.write-came.ensures.untouched none) ∙ sym before;
-      tidy = λ tick. c.write-came.ensures.tidy tick (c.prepare.ensures.tidy tick);
+          now ∙ ap Some (c.write-frames.ensures.untouched none) ∙ sym before;
+      tidy = λ tick. c.write-frames.ensures.tidy tick (c.prepare.ensures.tidy tick);
     }

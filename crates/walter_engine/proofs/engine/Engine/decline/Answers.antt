@@ -22,8 +22,8 @@ returns g c =
     let i = site_in engine.machine in
     let layout = layout_for engine.areas engine.capacity catalog.sites in
     let event = c.args.event.now in
-    let came = c.decline.result in
-    let only = c.decline.ensures.only in
+    let came = c.decline.new.came in
+    let only = c.decline.ensures.alone in
     let closed = engine.«open» ∙ c.requires.down in
     record {
       taken =

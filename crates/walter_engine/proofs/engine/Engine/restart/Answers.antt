@@ -62,8 +62,8 @@ returns-in-Err g c =
                 let still = rests_on g.D.Disk g.met.D.Disk.size_is g.met.D.Disk.counts_now layout S c.in-Some.disk c.in-Err.disk resting load.tells
                 (load.settled resting.begun) (load.any_moment resting.begun) in
                 come_unloaded {g = g.D.Disk} shape (λ bytes bodies. law.content_or_foreign shape bytes bodies) (λ bytes bodies at claimed. law.content_or_damaged shape bytes bodies at claimed low) layout for_ S c.in-Some.disk c.in-Err.disk resting load.tells
-                (catalog_in c.args.self.now.machine) (site_in c.args.self.now.machine) c.in-Err.fault c.rest.result _ _ down cause is_came is_why
-                (stands_same {g = g.D.Disk} _ (catalog_in c.args.self.now.machine) (site_in c.args.self.now.machine) S Restart c.rest.result (c.rest.ensures.stands S stands.machine down) stands.spelled layout refl (stored_bare g.D.Disk layout S c.args.self.now.book c.in-Err.disk closed still) closed
+                (catalog_in c.args.self.now.machine) (site_in c.args.self.now.machine) c.in-Err.fault c.rest.new.came _ _ down cause is_came is_why
+                (stands_same {g = g.D.Disk} _ (catalog_in c.args.self.now.machine) (site_in c.args.self.now.machine) S Restart c.rest.new.came (c.rest.ensures.stands S stands.machine down) stands.spelled layout refl (stored_bare g.D.Disk layout S c.args.self.now.book c.in-Err.disk closed still) closed
                 (ap (λ (x : Came). x.wrote) is_came) (ap (λ (x : Came). x.flight) is_came)
                 (ap (λ (x : Came). is_full x.outcome) is_came ∙ (unloaded_is c.in-Err.fault).2));
             any_moment = λ S stands.
@@ -71,19 +71,19 @@ returns-in-Err g c =
                 (subst (λ o. IsStored {g = g.D.Disk} layout S c.args.self.now.book o) was stands.stored) in
                 let down = state_up S (tables_in c.args.self.now.machine) stands.machine.state ∙ c.requires.down in
                 rw (before, now)
-                (weaker g.D.Disk.moment g.D.Disk.left_since c.in-Some.disk c.in-Err.disk (g.D.Disk.may_leave c.in-Some.disk) (MayHaveNext (catalog_in c.args.self.now.machine) layout (site_in c.args.self.now.machine) S Restart c.rest.result.kept)
+                (weaker g.D.Disk.moment g.D.Disk.left_since c.in-Some.disk c.in-Err.disk (g.D.Disk.may_leave c.in-Some.disk) (MayHaveNext (catalog_in c.args.self.now.machine) layout (site_in c.args.self.now.machine) S Restart c.rest.new.came.kept)
                 (λ image left. inl (resting.images image left)) (load.any_moment resting.begun));
             refused = rw now
                 (subst (λ (w : Option RefusedRestart). IfSome (g.D.Disk.known c.in-Err.disk).reads (λ bytes. IfSome w (IsRefusedFor (catalog_in c.args.self.now.machine) shape (site_in c.args.self.now.machine) bytes)))
                 (sym is_why) (refused_unloaded (catalog_in c.args.self.now.machine) shape (site_in c.args.self.now.machine) c.in-Err.fault _ _ _ cause));
             why = λ refused. subst (λ (w : Option RefusedRestart). IsSome w) (sym is_why)
                 ((unloaded_is c.in-Err.fault).3 (sym (ap (λ (x : Came). x.outcome) is_came) ∙ refused));
-            sized = sized_as _ c.rest.result _ is_came (sized_only _ (unloaded_by c.in-Err.fault).0 (unloaded_is c.in-Err.fault).1);
+            sized = sized_as _ c.rest.new.came _ is_came (sized_only _ (unloaded_by c.in-Err.fault).0 (unloaded_is c.in-Err.fault).1);
             framed =
-                let none : map (λ (s : Send). frame_of (catalog_in c.args.self.now.machine).sites s.1) c.rest.result.sends ≡ [] = ap (λ (x : Came). map (λ (s : Send). frame_of (catalog_in c.args.self.now.machine).sites s.1) x.sends) is_came in
+                let none : map (λ (s : Send). frame_of (catalog_in c.args.self.now.machine).sites s.1) c.rest.new.came.sends ≡ [] = ap (λ (x : Came). map (λ (s : Send). frame_of (catalog_in c.args.self.now.machine).sites s.1) x.sends) is_came in
                 cc;
             none_dropped = ap (λ (x : Came). x.dropped) is_came;
-            faults = rw (before, now) (faults_as c.rest.result _ _ _ (ap (λ (x : Came). is_faulty x.outcome) is_came)
+            faults = rw (before, now) (faults_as c.rest.new.came _ _ _ (ap (λ (x : Came). is_faulty x.outcome) is_came)
                 (unloaded_faults shape c.in-Err.fault _ _ _ cause));
             arms = rw (before, now) load.arms;
             tells = rw (before, now) load.tells;
@@ -100,7 +100,7 @@ returns-in-Err g c =
           });
       restarts =
           rw before (restarts_unloaded g.D.Disk g.met.D.Disk.size_is (catalog_in c.args.self.now.machine) shape layout (site_in c.args.self.now.machine) c.in-Err.fault
-          c.in-Some.disk c.in-Err.disk c.rest.result _ c.in-Err.ensures.tells cause (ap (λ (x : Came). x.outcome) is_came) is_why);
+          c.in-Some.disk c.in-Err.disk c.rest.new.came _ c.in-Err.ensures.tells cause (ap (λ (x : Came). x.outcome) is_came) is_why);
     }
 
 pub returns : goal.returns
@@ -116,16 +116,16 @@ returns g c =
     let same_shape = ap (λ n. shape_by c.args.self.now.capacity n) c.sites-sites.ensures in
     let low : c.args.self.now.capacity < 2 ^ 64 = omega arith in
     let shape_is = load.shape ∙ same_shape in
-    let same_layout : layout_for c.args.self.now.areas c.args.self.now.capacity (catalog_in c.raise-came.new.machine).sites ≡ layout =
-    ap (λ (x : Catalog). layout_for c.args.self.now.areas c.args.self.now.capacity x.sites) (c.raise-came.ensures.same.catalog ∙ c.settle-kept.ensures.same.catalog) in
+    let same_layout : layout_for c.args.self.now.areas c.args.self.now.capacity (catalog_in c.raise-refused.new.machine).sites ≡ layout =
+    ap (λ (x : Catalog). layout_for c.args.self.now.areas c.args.self.now.capacity x.sites) (c.raise-refused.ensures.same.catalog ∙ c.settle-kept.ensures.same.catalog) in
     let bodies = map (λ body. body.items) c.as_slice-bodies.result.now in
     let before_record = calls_before {g = g.D.Disk} c.in-Ok.loaded.0 bodies in
     let loads : g.D.Disk.device_calls (disk_of c.in-Ok.loaded.0) ≡ g.D.Disk.device_calls c.in-Some.disk + calls_of_load shape c.args.self.now.areas (g.D.Disk.known c.in-Some.disk).size =
     subst (λ (s : Shape). g.D.Disk.device_calls (disk_of c.in-Ok.loaded.0) ≡ g.D.Disk.device_calls c.in-Some.disk + calls_of_load s c.args.self.now.areas (g.D.Disk.known c.in-Some.disk).size) same_shape load.device in
     let is_bodies = c.as_slice-bodies.ensures in
-    let over = same_parts (λ x k. ComesOf x k (left_over (layout_of c.in-Ok.loaded.0) bodies) (map (λ body. body.items) c.as_slice-bodies.result.now) c.raise-came.result.0.wrote c.raise-came.result.1 c.raise-came.result.0.outcome)
+    let over = same_parts (λ x k. ComesOf x k (left_over (layout_of c.in-Ok.loaded.0) bodies) (map (λ body. body.items) c.as_slice-bodies.result.now) c.raise-refused.new.came.wrote c.raise-refused.result c.raise-refused.new.came.outcome)
     (catalog_in c.settle-kept.new.self) (catalog_in c.args.self.now.machine) (site_in c.settle-kept.new.self) (site_in c.args.self.now.machine) (sym c.settle-kept.ensures.same.catalog) (sym c.settle-kept.ensures.same.id)
-    c.raise-came.ensures.over in
+    c.raise-refused.ensures.over in
     record {
       taken =
           record {
@@ -140,12 +140,12 @@ returns g c =
                 let lies = lies_settled {g = g.D.Disk} shape (λ bytes a b. law.content shape bytes a b low) layout for_ S c.in-Some.disk c.in-Ok.loaded.0 shape_is bodies resting (load.image resting.begun) one (catalog_in c.settle-kept.new.self) (site_in c.settle-kept.new.self) c.settle-kept.result
                 (subst (λ (x : Catalog). AreSpelled x.sites S) (sym c.settle-kept.ensures.same.catalog) stands.spelled) down settles.stands.told
                 settles.is_found (count ∙ settles.count) in
-                let raises = c.raise-came.ensures.raises layout (settled (catalog_in c.settle-kept.new.self) (site_in c.settle-kept.new.self) c.settle-kept.result S) lies settles.stands (settles.counted ∙ settles.count) in
-                let book_is = c.close_unless.ensures.book ∙ ap (λ (b : Bool). book_if b c.raise-came.new.book) c.is_up.ensures in
-                let disk_is = c.close_unless.ensures.bare ∙ ap (λ (b : Bool). disk_if {g = g.D.Disk} b c.raise-came.new.book) c.is_up.ensures in
-                let here = same_parts (λ x k. Raises {g = g.D.Disk} x layout k (settled x k c.settle-kept.result S) c.raise-came.result.0 c.raise-came.result.1 c.raise-came.new.machine c.raise-came.new.book) (catalog_in c.settle-kept.new.self) (catalog_in c.args.self.now.machine) (site_in c.settle-kept.new.self) (site_in c.args.self.now.machine) (sym c.settle-kept.ensures.same.catalog) (sym c.settle-kept.ensures.same.id)
+                let raises = c.raise-refused.ensures.raises layout (settled (catalog_in c.settle-kept.new.self) (site_in c.settle-kept.new.self) c.settle-kept.result S) lies settles.stands (settles.counted ∙ settles.count) in
+                let book_is = c.close_unless.ensures.book ∙ ap (λ (b : Bool). book_if b c.raise-refused.new.book) c.is_up.ensures in
+                let disk_is = c.close_unless.ensures.bare ∙ ap (λ (b : Bool). disk_if {g = g.D.Disk} b c.raise-refused.new.book) c.is_up.ensures in
+                let here = same_parts (λ x k. Raises {g = g.D.Disk} x layout k (settled x k c.settle-kept.result S) c.raise-refused.new.came c.raise-refused.result c.raise-refused.new.machine c.raise-refused.new.book) (catalog_in c.settle-kept.new.self) (catalog_in c.args.self.now.machine) (site_in c.settle-kept.new.self) (site_in c.args.self.now.machine) (sym c.settle-kept.ensures.same.catalog) (sym c.settle-kept.ensures.same.id)
                 raises in
-                come_raised {g = g.D.Disk} (catalog_in c.args.self.now.machine) layout (site_in c.args.self.now.machine) S c.settle-kept.result c.raise-came.result.0 c.raise-came.result.1 _ c.raise-came.new.book same_layout settles.is_found here book_is disk_is;
+                come_raised {g = g.D.Disk} (catalog_in c.args.self.now.machine) layout (site_in c.args.self.now.machine) S c.settle-kept.result c.raise-refused.new.came c.raise-refused.result _ c.raise-refused.new.book same_layout settles.is_found here book_is disk_is;
             any_moment = λ S stands.
                 let resting = on_bare g.D.Disk layout S c.args.self.now.book c.in-Some.disk closed
                 (subst (λ o. IsStored {g = g.D.Disk} layout S c.args.self.now.book o) was stands.stored) in
@@ -158,31 +158,31 @@ returns g c =
                 (subst (λ (x : Catalog). AreSpelled x.sites S) (sym c.settle-kept.ensures.same.catalog) stands.spelled) down settles.stands.told
                 settles.is_found (count ∙ settles.count) in
                 rw (before, c.close_unless.ensures.same)
-                (same_parts (λ x k. LeavesOnly g.D.Disk.moment g.D.Disk.left_since c.in-Some.disk (disk_of c.raise-came.new.book) (MayHaveNext x layout k S Restart c.settle-kept.result))
+                (same_parts (λ x k. LeavesOnly g.D.Disk.moment g.D.Disk.left_since c.in-Some.disk (disk_of c.raise-refused.new.book) (MayHaveNext x layout k S Restart c.settle-kept.result))
                 (catalog_in c.settle-kept.new.self) (catalog_in c.args.self.now.machine) (site_in c.settle-kept.new.self) (site_in c.args.self.now.machine) (sym c.settle-kept.ensures.same.catalog) (sym c.settle-kept.ensures.same.id)
-                (leaves_loaded {g = g.D.Disk} (catalog_in c.settle-kept.new.self) layout (site_in c.settle-kept.new.self) S c.settle-kept.result c.in-Some.disk c.in-Ok.loaded.0 (disk_of c.raise-came.new.book) resting settles.is_found (load.any_moment resting.begun)
-                (c.raise-came.ensures.any_moment layout (settled (catalog_in c.settle-kept.new.self) (site_in c.settle-kept.new.self) c.settle-kept.result S) lies)));
+                (leaves_loaded {g = g.D.Disk} (catalog_in c.settle-kept.new.self) layout (site_in c.settle-kept.new.self) S c.settle-kept.result c.in-Some.disk c.in-Ok.loaded.0 (disk_of c.raise-refused.new.book) resting settles.is_found (load.any_moment resting.begun)
+                (c.raise-refused.ensures.any_moment layout (settled (catalog_in c.settle-kept.new.self) (site_in c.settle-kept.new.self) c.settle-kept.result S) lies)));
             refused = rw c.close_unless.ensures.same
-                (same_parts (λ x k. IfSome (g.D.Disk.known (disk_of c.raise-came.new.book)).reads (λ bytes. IfSome c.raise-came.result.1 (IsRefusedFor x shape k bytes)))
+                (same_parts (λ x k. IfSome (g.D.Disk.known (disk_of c.raise-refused.new.book)).reads (λ bytes. IfSome c.raise-refused.result (IsRefusedFor x shape k bytes)))
                 (catalog_in c.settle-kept.new.self) (catalog_in c.args.self.now.machine) (site_in c.settle-kept.new.self) (site_in c.args.self.now.machine) (sym c.settle-kept.ensures.same.catalog) (sym c.settle-kept.ensures.same.id)
-                (refused_loaded {g = g.D.Disk} (catalog_in c.settle-kept.new.self) shape (site_in c.settle-kept.new.self) c.in-Some.disk (disk_of c.raise-came.new.book) c.in-Ok.loaded.0 bodies c.raise-came.result.1 shape_is
+                (refused_loaded {g = g.D.Disk} (catalog_in c.settle-kept.new.self) shape (site_in c.settle-kept.new.self) c.in-Some.disk (disk_of c.raise-refused.new.book) c.in-Ok.loaded.0 bodies c.raise-refused.result shape_is
                 (λ told. subst (λ (b : List (List ℕ)). StandsFor {g = g.D.Disk} c.in-Ok.loaded.0 b) (sym c.as_slice-bodies.ensures) (load.loaded told))
-                load.tells c.raise-came.ensures.refused));
-            why = has_cause (catalog_in c.settle-kept.new.self) (site_in c.settle-kept.new.self) (left_over (layout_of c.in-Ok.loaded.0) bodies) (map (λ body. body.items) c.as_slice-bodies.result.now) c.raise-came.result.0.wrote c.raise-came.result.1 c.raise-came.result.0.outcome
-                c.raise-came.ensures.over;
-            sized = subst (λ (x : Catalog). IsSized x.sites (record c.raise-came.result.0 { kept = c.settle-kept.result })) c.settle-kept.ensures.same.catalog
-                (record { outcome = c.raise-came.ensures.sized.outcome; kept = c.settle-kept.ensures.sized; wrote = c.raise-came.ensures.sized.wrote; flight = c.raise-came.ensures.sized.flight; sends = c.raise-came.ensures.sized.sends });
+                load.tells c.raise-refused.ensures.refused));
+            why = has_cause (catalog_in c.settle-kept.new.self) (site_in c.settle-kept.new.self) (left_over (layout_of c.in-Ok.loaded.0) bodies) (map (λ body. body.items) c.as_slice-bodies.result.now) c.raise-refused.new.came.wrote c.raise-refused.result c.raise-refused.new.came.outcome
+                c.raise-refused.ensures.over;
+            sized = subst (λ (x : Catalog). IsSized x.sites (record c.raise-refused.new.came { kept = c.settle-kept.result })) c.settle-kept.ensures.same.catalog
+                (record { outcome = c.raise-refused.ensures.sized.outcome; kept = c.settle-kept.ensures.sized; wrote = c.raise-refused.ensures.sized.wrote; flight = c.raise-refused.ensures.sized.flight; sends = c.raise-refused.ensures.sized.sends });
             framed =
-                let none : map (λ (s : Send). frame_of (catalog_in c.args.self.now.machine).sites s.1) c.raise-came.result.0.sends ≡ [] = ap (λ (l : List Send). map (λ (s : Send). frame_of (catalog_in c.args.self.now.machine).sites s.1) l) c.raise-came.ensures.none_sent in
+                let none : map (λ (s : Send). frame_of (catalog_in c.args.self.now.machine).sites s.1) c.raise-refused.new.came.sends ≡ [] = ap (λ (l : List Send). map (λ (s : Send). frame_of (catalog_in c.args.self.now.machine).sites s.1) l) c.raise-refused.ensures.none_sent in
                 cc;
-            none_dropped = c.raise-came.ensures.none_dropped;
+            none_dropped = c.raise-refused.ensures.none_dropped;
             faults = rw (before, c.close_unless.ensures.same)
-                (subst (λ (n : ℕ). IsFaulty c.raise-came.result.0 n (g.D.Disk.known (disk_of c.raise-came.new.book)).faults) load.faultless c.raise-came.ensures.faults);
-            arms = rw (before, c.close_unless.ensures.same) (c.raise-came.ensures.arms ∙ load.arms);
-            tells = rw (before, c.close_unless.ensures.same) (c.raise-came.ensures.tells ∙ load.tells);
+                (subst (λ (n : ℕ). IsFaulty c.raise-refused.new.came n (g.D.Disk.known (disk_of c.raise-refused.new.book)).faults) load.faultless c.raise-refused.ensures.faults);
+            arms = rw (before, c.close_unless.ensures.same) (c.raise-refused.ensures.arms ∙ load.arms);
+            tells = rw (before, c.close_unless.ensures.same) (c.raise-refused.ensures.tells ∙ load.tells);
             engine = record {
-              catalog = c.raise-came.ensures.same.catalog ∙ c.settle-kept.ensures.same.catalog;
-              site = c.raise-came.ensures.same.id ∙ c.settle-kept.ensures.same.id;
+              catalog = c.raise-refused.ensures.same.catalog ∙ c.settle-kept.ensures.same.catalog;
+              site = c.raise-refused.ensures.same.id ∙ c.settle-kept.ensures.same.id;
               capacity = refl;
               layout = same_layout;
             };
@@ -191,13 +191,13 @@ returns g c =
         pack = before_record;
         packs = packs_are {g = g.D.Disk} shape c.in-Ok.loaded.0 bodies shape_is;
         calls = record {
-          all = calls_of_restart c.raise-came.result.0.wrote _ before_record _ _ _ loads c.raise-came.ensures.device.all;
-          at_most = omega (arith, loads, c.raise-came.ensures.device.at_most);
+          all = calls_of_restart c.raise-refused.new.came.wrote _ before_record _ _ _ loads c.raise-refused.ensures.device.all;
+          at_most = omega (arith, loads, c.raise-refused.ensures.device.at_most);
         };
       });
       restarts =
           rw before (restarts_loaded g.D.Disk g.met.D.Disk.size_is (catalog_in c.args.self.now.machine) shape layout (site_in c.args.self.now.machine) c.in-Some.disk c.in-Ok.loaded.0
-          bodies (record c.raise-came.result.0 { kept = c.settle-kept.result }) c.raise-came.result.1 shape_is
+          bodies (record c.raise-refused.new.came { kept = c.settle-kept.result }) c.raise-refused.result shape_is
           (λ told. subst (λ (b : List (List ℕ)). StandsFor {g = g.D.Disk} c.in-Ok.loaded.0 b) (sym is_bodies) (load.loaded told))
           (λ size. is_bodies ∙ load.fresh size)
           (λ size. ap (λ (s : Shape). layout_by s c.in-Ok.loaded.0.live) shape_is ∙ sym (found_is shape c.in-Ok.loaded.0.live)
@@ -205,6 +205,6 @@ returns g c =
           load.image over);
     }
 
-pub raise-came-requires-clause-sites : goal.raise-came-requires-clause-sites
-raise-came-requires-clause-sites g c =
+pub raise-refused-requires-clause-sites : goal.raise-refused-requires-clause-sites
+raise-refused-requires-clause-sites g c =
     ap (λ (s : Shape). s.sites) c.in-Ok.ensures.shape ∙ c.sites-sites.ensures ∙ sym (ap (λ (x : Catalog). x.sites) c.settle-kept.ensures.same.catalog)

@@ -1,4 +1,4 @@
-use Rattle.std.proofs.Common.{◌∙◌, Option, ap, sym, subst, refl}
+use Rattle.std.proofs.Common.{◌≡◌, ◌∙◌, Option, ap, sym, subst, refl}
 use Rattle.std.specs.Prelude.{IfSome, is_some}
 use Rattle.walter_base.specs.declared.message.Record.{Record}
 use Rattle.walter_base.specs.Sizes.{CanBeRecorded}
@@ -9,7 +9,7 @@ use Rattle.walter_machine.specs.Steps.{record_of, step_by}
 use Rattle.walter_tables.specs.declared.tables.Tables.{Tables}
 use Rattle.walter_machine.specs.Comings.{IsFall}
 use Rattle.walter_machine.proofs.Standing.{fail_comes, failed_standing_by, fault_made, lost_none, next_recorded, room_of}
-use Rattle.walter_machine.proofs.Standings.{failure_falls}
+use Rattle.walter_machine.proofs.Standings.{failure_falls, fault_of}
 use Rattle.walter_rules.specs.declared.outcome.Outcome.{Outcome}
 use Rattle.walter_machine.proofs.machine.Machine.fail.Goals as goal
 
@@ -41,21 +41,24 @@ invariant_of-self-clause-sized c =
 pub invariant_of-self-clause-roomy : goal.invariant_of-self-clause-roomy
 invariant_of-self-clause-roomy c = λ up. absurd (let no = ap is_some c.lose.ensures.down in cc)
 
+made : (c : goal.Joined-came-rec) → record c.args.came.now { outcome = c.failure-outcome.result; flight = c.replace-rec.result }
+    ≡ fault_of c.args.event.now c.in-Some.failed.now
+made c = fault_made c.args.came.now c.failure-outcome.result c.replace-rec.result c.args.event.now c.in-Some.failed.now
+    c.requires.alone c.failure-outcome.ensures c.in-Some.ensures.some
+
 pub returns-clause-comes : goal.returns-clause-comes
 returns-clause-comes c = λ layout S ready fits.
     let m = c.args.self.now in
     fail_comes m.catalog layout m.id m.site S c.args.event.now c.args.ready.now c.in-Some.failed.now _
     (sym c.args.ready.now.copy ∙ sym c.replace-rec.ensures.value ∙ c.in-Some.ensures.some)
-    (fault_made c.only.result c.failure-outcome.result c.replace-rec.result c.args.event.now c.in-Some.failed.now c.only.ensures
-    c.failure-outcome.ensures c.in-Some.ensures.some) ready fits
+    (made c) ready fits
 
 pub returns-clause-stands : goal.returns-clause-stands
 returns-clause-stands c = λ S has counted ready.
     let m = c.args.self.now in
     failed_standing_by m _ S c.args.event.now c.args.ready.now c.in-Some.failed.now _ c.failure-outcome.result
     (sym c.args.ready.now.copy ∙ sym c.replace-rec.ensures.value ∙ c.in-Some.ensures.some)
-    (fault_made c.only.result c.failure-outcome.result c.replace-rec.result c.args.event.now c.in-Some.failed.now c.only.ensures
-    c.failure-outcome.ensures c.in-Some.ensures.some)
+    (made c)
     has counted ready (room_of m c.requires.room).unlost m.of c.failure-outcome.ensures
     c.lose.ensures.lost c.lose.ensures.none refl refl c.lose.ensures.down
     (c.place.ensures.rec ∙ sym c.rec_of.ensures

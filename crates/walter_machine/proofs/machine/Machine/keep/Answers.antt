@@ -48,9 +48,9 @@ returns-clause-came c =
     let out = c.follow.ensures in
     let plan = c.args.ready.now.plan in
     let of_kind = c.replace-kind.ensures.value in
-    came_made _ _ _ _ _ (step_by c.args.ready.now.kind plan)
+    came_made c.args.came.now _ _ _ (step_by c.args.ready.now.kind plan) c.requires.alone
     (c.replace.ensures.value ∙ out.outcome ∙ ap (λ (k : Kind). outcome_of (step_by k plan)) of_kind)
-    c.none-3.ensures (c.replace-wrote.ensures.value ∙ c.args.ready.now.copy) c.none-4.ensures
+    (c.replace-wrote.ensures.value ∙ c.args.ready.now.copy)
     (c.replace-2.ensures.value ∙ out.sends ∙ ap (λ (k : Kind). sends_of (step_by k plan)) of_kind)
 
 pub returns-clause-comes : goal.returns-clause-comes

@@ -1,7 +1,8 @@
-use Rattle.std.proofs.Common.{◌≡◌, sym, ◌∙◌, subst, refl}
+use Rattle.std.proofs.Common.{sym, ◌∙◌, subst, refl}
 use Rattle.std.specs.Prelude.{IfOk}
 use Rattle.walter_base.specs.declared.catalog.Catalog.{Catalog}
 use Rattle.walter_base.specs.declared.names.SiteId.{SiteId}
+use Rattle.walter_machine.proofs.Sizes.{only_alone}
 use Rattle.walter_machine.specs.Machines.{catalog_in, site_in, tables_in}
 use Rattle.walter_machine.specs.Readiness.{IsReadyAnyway}
 use Rattle.walter_rules.specs.declared.entry.Came.{Came}
@@ -54,8 +55,11 @@ returns-in-Restart-clause-comes c =
     HasCome (catalog_in seat.machine) (site_in seat.machine) S e (found_by c.args.keeps S) c.args.fate x c.rise.new.self.machine))
     (sym c.in-Restart.is) c.rise.ensures.comes
 
+pub decline-requires-clause-alone : goal.decline-requires-clause-alone
+decline-requires-clause-alone c = only_alone c.only-came.result _ c.only-came.ensures
+
 pub returns-in_default-clause-comes : goal.returns-in_default-clause-comes
 returns-in_default-clause-comes c =
     let d = c.decline.ensures in
-    declined c.args.self.now c.args.event.now c.args.keeps c.args.fate c.decline.result c.requires
-    (sym c.is_up.ensures ∙ c.if-is_up.false) c.in_default.not-Restart d.only d.ruled d.stands
+    declined c.args.self.now c.args.event.now c.args.keeps c.args.fate c.decline.new.came c.requires
+    (sym c.is_up.ensures ∙ c.if-is_up.false) c.in_default.not-Restart d.alone d.ruled d.stands

@@ -3,7 +3,7 @@ use Rattle.std.specs.Vec.Iter.{into_iter_items}
 use Rattle.walter_rules.specs.Sending.{Send}
 use Rattle.walter_packet.specs.Framed.{frame_of}
 use Rattle.walter_outbox.proofs.Putting.{IsPutting, HavePutFront}
-use Rattle.walter_outbox.proofs.outbox.put_out.Given as goal
+use Rattle.walter_outbox.proofs.outbox.put_all.Given as goal
 
 abbrev pub invariant-loop-framed : goal.invariant-loop-framed
 invariant-loop-framed l = record {
