@@ -16,13 +16,13 @@ use Rattle.clap.proofs.OnLiterals.{clap_on_literals}
 use Rattle.walter_words.specs.declared.asked.Command.{Command}
 use Rattle.walter_words.specs.declared.asked.Command.TheVariants.{Play, Run, Load, Say}
 use Rattle.walter_words.specs.Lines.{walter_line}
-use Rattle.walter_words.specs.Words.{AsksFor, AsksForText, FollowsFrom, IsEntered, IsGiven, IsLoad, IsReadAs, IsRunLine, IsSaid, IsText, IsTextKind, IsTold, NamesFolder, Writes, folder_of}
+use Rattle.walter_words.specs.Words.{AsksFor, AsksForText, FollowsFrom, IsEntered, IsGiven, IsLoad, IsReadAs, IsRunLine, IsSaid, IsText, IsTextKind, IsTold, NamesFolder, SpellsNumber, folder_of}
 use Rattle.walter_words.proofs.Levels.{driven_level, first_word, load_fault, load_rows, play_fault, play_rows, run_fault, run_rows}
 use Rattle.walter_words.proofs.Drives.{behind_name, options_pass}
 use Rattle.walter_words.proofs.Loads.{IsNoFlag, TwoOptions, behind_load, load_passes, row}
 
 -- a number is no flag
-no_flag : (v : Text) (n : ℕ) → Writes v n → IsNoFlag v
+no_flag : (v : Text) (n : ℕ) → SpellsNumber v n → IsNoFlag v
 no_flag [] n h = absurd (omega (arith, h.0.0))
 no_flag (d ∷ ds) n h = go (d == 45) refl
   where
@@ -32,7 +32,7 @@ no_flag (d ∷ ds) n h = go (d == 45) refl
         absurd (omega (arith, minus.1.0))
     go false is = (rw is refl, rw is refl, rw is refl)
 
-fits : (v : Text) (n most : ℕ) → Writes v n → n < 2 ^ 64 → n ≤ most → IsUnsignedIn 0 most v
+fits : (v : Text) (n most : ℕ) → SpellsNumber v n → n < 2 ^ 64 → n ≤ most → IsUnsignedIn 0 most v
 fits v n most h low high = (h.0, rw h.1 low, omega arith, rw h.1 high)
 
 -- ---- play and run
@@ -204,6 +204,6 @@ names (Say text) words asks only = λ other line. ap folder_of (sym (only other 
 
 -- a number that fits is read
 pub number_read : (E : Type 0) (G : List ℕ → Result ℕ E → Type 0) (k : ℕ) (t : Text) (n : ℕ) (r : Option ℕ) → ReadsOne G t r
-    → ((u : Text) (x : Result ℕ E) → G u x → ParsesUnsigned k 10 u x) → Writes t n → n < 2 ^ k → r ≡ Some n
+    → ((u : Text) (x : Result ℕ E) → G u x → ParsesUnsigned k 10 u x) → SpellsNumber t n → n < 2 ^ k → r ≡ Some n
 number_read E G k t n (Some v) reads only wrote low = ap (λ m. Some m) ((only t (Ok v) reads).1 ∙ wrote.1)
 number_read E G k t n None reads only wrote low = absurd (only t (Err reads.0) reads.1 (wrote.0, rw wrote.1 low))

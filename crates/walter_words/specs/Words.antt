@@ -15,8 +15,8 @@ use Rattle.walter_words.specs.declared.asked.Command.{Command}
 use Rattle.walter_words.specs.declared.asked.Command.TheVariants.{Play, Run, Load, Say}
 
 -- the text is decimal digits, behind a plus or not, that write the number
-abbrev pub Writes : Text → ℕ → Type 0
-Writes text n = IsNumeral 10 (without_leading_plus text) × (digits_value 10 (without_leading_plus text) ≡ n)
+abbrev pub SpellsNumber : Text → ℕ → Type 0
+SpellsNumber text n = IsNumeral 10 (without_leading_plus text) × (digits_value 10 (without_leading_plus text) ≡ n)
 
 -- the first words are `--name=value`, or `--name` and `value`
 abbrev pub BeginsBy : Text → Text → List Text → List Text → Type 0
@@ -66,7 +66,7 @@ AreOptions seed calls words rest = (between : List Text)
 abbrev pub IsLoad : ℕ → ℕ → List Text → Type 0
 IsLoad seed calls words = (s : Text) × (c : Text) × (options : List Text) × (rest : List Text)
     × (words ≡ codes "load" ∷ options) × AreOptions s c options rest × IsEnd rest
-    × Writes s seed × Writes c calls × (seed < 2 ^ 64) × (calls ≤ 20000)
+    × SpellsNumber s seed × SpellsNumber c calls × (seed < 2 ^ 64) × (calls ≤ 20000)
 
 -- the words ask for a run, and for just this one
 abbrev pub AsksFor : Command → List Text → Type 0
@@ -108,7 +108,7 @@ IsReadAs entered (Run trace disks) = IsEntered (codes "run") trace disks entered
 IsReadAs entered (Load seed calls) = (rows : List Row) × (s : Text) × (c : Text)
     × (entered ≡ Some (codes "load", rows))
     × (one_of (codes "seed") rows ≡ Some s) × (one_of (codes "calls") rows ≡ Some c)
-    × Writes s seed × Writes c calls × (seed < 2 ^ 64) × (calls ≤ 20000)
+    × SpellsNumber s seed × SpellsNumber c calls × (seed < 2 ^ 64) × (calls ≤ 20000)
 IsReadAs entered (Say text) = ⊥
 
 -- the answer is this run, unless memory is wanting

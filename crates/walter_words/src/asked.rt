@@ -5,7 +5,7 @@ ghost use Rattle.clap.specs.Faults.{fault_of};
 ghost use Rattle.walter_words.specs.Lines.{walter_line};
 ghost use Rattle.walter_words.specs.Words.{AsksFor, AsksForText, FollowsFrom, HasOptions, IsGiven, IsReadAs, IsSaid};
 ghost use Rattle.walter_words.specs.Words.{NamesFolder};
-ghost use Rattle.walter_words.specs.Words.{IsText, IsTold, Writes};
+ghost use Rattle.walter_words.specs.Words.{IsText, IsTold, SpellsNumber};
 
 use crate::folder_path::FolderPath;
 use crate::lines::walter;
@@ -112,7 +112,8 @@ fn load_of(load: &ArgMatches<'_>) -> Option<Command>
     ensures { (s : List ℕ) (c : List ℕ) (seed : ℕ) (calls : ℕ)
         → one_of (codes "seed") (rows_of (found_of load.now)) ≡ Some s
         → one_of (codes "calls") (rows_of (found_of load.now)) ≡ Some c
-        → Writes s seed → Writes c calls → seed < 2 ^ 64 → calls ≤ 20000 → result ≡ Some (Command.Load seed calls) }
+        → SpellsNumber s seed → SpellsNumber c calls → seed < 2 ^ 64 → calls ≤ 20000
+        → result ≡ Some (Command.Load seed calls) }
 {
     Some(Command::Load {
         seed: load.get_one::<u64>("seed")?,
