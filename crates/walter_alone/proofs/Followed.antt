@@ -4,7 +4,7 @@ use Rattle.std.specs.Prelude.{Option}
 use Rattle.std.proofs.lemmas.Option.{same_Some}
 use Rattle.walter_base.specs.declared.catalog.Catalog.{Catalog}
 use Rattle.walter_base.specs.declared.message.Record.{Record}
-use Rattle.walter_base.specs.declared.message.Record.TheVariants.{Boot, Own, Got, Seen, Prepared, Released, SlowBegin, SlowEnd, Marks}
+use Rattle.walter_base.specs.declared.message.Record.TheVariants.{Boot, Own, Got, Seen, Prepared, Released, SlowBegin, SlowEnd, Marks, Format as FormatRecord}
 use Rattle.walter_base.specs.declared.names.ObjId.{ObjId}
 use Rattle.walter_base.specs.declared.names.SiteId.{SiteId}
 use Rattle.walter_base.specs.declared.names.Tid.{Tid}
@@ -17,7 +17,7 @@ use Rattle.walter_rules.specs.declared.event.Event.TheVariants.{Given}
 use Rattle.walter_rules.specs.declared.event.Input.TheVariants.{Deliver}
 use Rattle.walter_rules.specs.declared.outcome.Outcome.{Outcome}
 use Rattle.walter_rules.specs.declared.outcome.Outcome.TheVariants.{Taken}
-use Rattle.walter_rules.specs.Allowed.{IsKind, commits, begins, receives, marks_durable, marks_visible, prepares, decides, gives_up, releases, sees, boots, IsFromPeer, Covers}
+use Rattle.walter_rules.specs.Allowed.{IsKind, commits, begins, receives, marks_durable, marks_visible, prepares, decides, gives_up, releases, sees, upgrades, boots, IsFromPeer, Covers}
 use Rattle.walter_rules.specs.Conflicts.{conflict_at}
 use Rattle.walter_rules.specs.Declarations.{are_declared}
 use Rattle.walter_rules.specs.Deliveries.{is_peer}
@@ -93,6 +93,7 @@ follow_lost catalog i K (Marks durable visible) f =
           f.durable_own;
       visible_own = f.visible_own;
     }
+follow_lost catalog i K FormatRecord f = record { booted = f.booted; first = f.first }
 
 freed_lost : (j : SiteId) (n : ℕ) (K : Knowledge) (oid : ObjId) → freed_over j n K oid ≡ freed_over j n (lost K) oid
 freed_lost j zero K oid = refl
@@ -114,6 +115,7 @@ lost_recorded catalog i K (Released j n) = refl
 lost_recorded catalog i K (SlowBegin n tx) = refl
 lost_recorded catalog i K (SlowEnd n) = refl
 lost_recorded catalog i K (Marks durable visible) = refl
+lost_recorded catalog i K FormatRecord = refl
 
 -- no more numbers pass than there are
 pub passed_within : (test : ℕ → Bool) (n : ℕ) → passed test n ≤ n
@@ -233,6 +235,7 @@ module _ (catalog : Catalog) (i : SiteId) (S : Standing) (L : IsLearned catalog 
     covered = λ x held. covers_pass S.knows.committed x.start
         (subst (λ (z : Tx). Covers S.knows.committed z.start) (same_Some tx x (sym due.held ∙ held)) due.covered);
   }
+  record_follows event wrote outcome (upgrades up first) = record { booted = booted up; first = first }
   record_follows event wrote outcome (boots down) = refl
   record_follows event wrote outcome kind = tt
 

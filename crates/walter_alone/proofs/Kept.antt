@@ -6,7 +6,7 @@ use Rattle.std.proofs.lemmas.Bool.{cases_Bool, eqb-true, eq-eqb}
 use Rattle.std.proofs.lemmas.Option.{same_Some}
 use Rattle.walter_base.specs.declared.catalog.Catalog.{Catalog}
 use Rattle.walter_base.specs.declared.message.Record.{Record}
-use Rattle.walter_base.specs.declared.message.Record.TheVariants.{Boot, Own, Got, Seen, Prepared, Released, SlowBegin, SlowEnd, Marks}
+use Rattle.walter_base.specs.declared.message.Record.TheVariants.{Boot, Own, Got, Seen, Prepared, Released, SlowBegin, SlowEnd, Marks, Format as FormatRecord}
 use Rattle.walter_base.specs.declared.message.Reply.TheVariants.{Started, Deciding}
 use Rattle.walter_base.specs.declared.message.Request.TheVariants.{Start, Commit}
 use Rattle.walter_base.specs.declared.names.SiteId.{SiteId}
@@ -378,6 +378,7 @@ settled_tidy catalog i K (Prepared j n tid objects) I = settled_plain catalog i 
 settled_tidy catalog i K (Released j n) I = settled_plain catalog i K (Released j n) I tt
 settled_tidy catalog i K (SlowEnd n) I = settled_plain catalog i K (SlowEnd n) I tt
 settled_tidy catalog i K (Marks durable visible) I = settled_plain catalog i K (Marks durable visible) I tt
+settled_tidy catalog i K FormatRecord I = settled_plain catalog i K FormatRecord I tt
 
 -- and how names are then
 settled_name : (catalog : Catalog) (i : SiteId) (K : Knowledge) (rec : Record) → IsKept catalog i false K (Some rec)
@@ -437,6 +438,7 @@ settled_names catalog i K (Prepared j n tid objects) I = settled_free catalog i 
 settled_names catalog i K (Released j n) I = settled_free catalog i K (Released j n) I tt
 settled_names catalog i K (SlowEnd n) I = settled_free catalog i K (SlowEnd n) I tt
 settled_names catalog i K (Marks durable visible) I = settled_free catalog i K (Marks durable visible) I tt
+settled_names catalog i K FormatRecord I = settled_free catalog i K FormatRecord I tt
 
 pub settles : (catalog : Catalog) (i : SiteId) → i.0 < catalog.sites → (K : Knowledge) (rec : Record)
     → IsKept catalog i false K (Some rec)

@@ -8,7 +8,7 @@ use Rattle.walter_base.specs.declared.catalog.Catalog.{Catalog}
 use Rattle.walter_base.specs.declared.message.BadFrame.{BadFrame}
 use Rattle.walter_base.specs.declared.message.Level.TheVariants.{NotCommitted, Running, Deciding as BeingDecided}
 use Rattle.walter_base.specs.declared.message.Record.{Record}
-use Rattle.walter_base.specs.declared.message.Record.TheVariants.{Own, Got, Seen, Prepared, Released, SlowBegin, SlowEnd, Marks}
+use Rattle.walter_base.specs.declared.message.Record.TheVariants.{Own, Got, Seen, Prepared, Released, SlowBegin, SlowEnd, Marks, Format as FormatRecord}
 use Rattle.walter_base.specs.declared.message.Reply.{Reply}
 use Rattle.walter_base.specs.declared.message.Reply.TheVariants.{Started, Value, Done, Set, Count, Committed, Aborted, Deciding, Level, Ended, Refused}
 use Rattle.walter_base.specs.declared.message.Request.{Request}
@@ -26,10 +26,10 @@ use Rattle.walter_rules.specs.declared.entry.Came.{Came}
 use Rattle.walter_rules.specs.declared.entry.Entry.{Entry}
 use Rattle.walter_rules.specs.declared.event.Event.{Event}
 use Rattle.walter_rules.specs.declared.event.Event.TheVariants.{Given, Stop, Restart}
-use Rattle.walter_rules.specs.declared.event.Input.TheVariants.{Call, Deliver, Advance, Tick}
+use Rattle.walter_rules.specs.declared.event.Input.TheVariants.{Call, Deliver, Advance, Tick, Upgrade}
 use Rattle.walter_rules.specs.declared.outcome.Outcome.{Outcome}
 use Rattle.walter_rules.specs.declared.outcome.Outcome.TheVariants.{Replied, Taken, Passed, Failed, Full, Memory, Down}
-use Rattle.walter_rules.specs.Allowed.{IsKind, is_refused, starts, does, reads, ends, aborts, conflicts, commits, begins, waits, tells_version, tells_cause, levels_own, is_deciding, is_running, denies, passes, receives, hears_ack, hears_durable, hears_visible, marks_durable, marks_visible, prepares, hears_yes, decides, gives_up, releases, hears_released, sees, stops, is_down, boots, IsUpdateCall, of_write, of_add, of_del, IsReadCall, of_value, of_counts, of_count, HasOpen}
+use Rattle.walter_rules.specs.Allowed.{IsKind, is_refused, starts, does, reads, ends, aborts, conflicts, commits, begins, waits, tells_version, tells_cause, levels_own, is_deciding, is_running, denies, passes, receives, hears_ack, hears_durable, hears_visible, marks_durable, marks_visible, prepares, hears_yes, decides, gives_up, releases, hears_released, sees, upgrades, stops, is_down, boots, IsUpdateCall, of_write, of_add, of_del, IsReadCall, of_value, of_counts, of_count, HasOpen}
 use Rattle.walter_rules.specs.Calls.{own_version, next_seq, next_slow, next_tid, read_updates, level_of_own}
 use Rattle.walter_rules.specs.Conflicts.{cause_of}
 use Rattle.walter_rules.specs.Declarations.{is_declared, are_declared}
@@ -98,6 +98,7 @@ want_idle (Given (Call client call)) = tt
 want_idle (Given (Deliver from number packet)) = tt
 want_idle (Given (Advance from)) = tt
 want_idle (Given Tick) = tt
+want_idle (Given Upgrade) = tt
 want_idle Stop = tt
 want_idle Restart = tt
 
@@ -106,6 +107,7 @@ fullness_idle (Given (Call client call)) need left = tt
 fullness_idle (Given (Deliver from number packet)) need left = tt
 fullness_idle (Given (Advance from)) need left = tt
 fullness_idle (Given Tick) need left = tt
+fullness_idle (Given Upgrade) need left = tt
 fullness_idle Stop need left = tt
 fullness_idle Restart need left = tt
 
@@ -390,6 +392,9 @@ module _ (catalog : Catalog) (i : SiteId) (below : i.0 < catalog.sites) (S : Sta
       (kind_can event wrote outcome (sees j tx from due)) refl refl tt
   kind_kept event wrote outcome (stops up) =
       falls catalog i S.up S.knows S.flight I S.flight still
+  kind_kept event wrote outcome (upgrades up first) =
+      stays_quiet up (Given Upgrade) Taken (Some FormatRecord) tt
+      (kind_can event wrote outcome (upgrades up first)) refl refl tt
   kind_kept event wrote outcome (is_down ev) = idle ev Down tt
   kind_kept event wrote outcome (boots down) = boots_up catalog i below S.knows S.flight
       (subst (λ b. IsKept catalog i b S.knows S.flight) down I)

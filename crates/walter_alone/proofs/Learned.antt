@@ -6,7 +6,7 @@ use Rattle.std.proofs.lemmas.Bool.{and_parts}
 use Rattle.std.proofs.lemmas.List.Elements.{All-contains}
 use Rattle.walter_base.specs.declared.catalog.Catalog.{Catalog}
 use Rattle.walter_base.specs.declared.message.Record.{Record}
-use Rattle.walter_base.specs.declared.message.Record.TheVariants.{Boot, Own, Got, Seen, Prepared, Released, SlowBegin, SlowEnd, Marks}
+use Rattle.walter_base.specs.declared.message.Record.TheVariants.{Boot, Own, Got, Seen, Prepared, Released, SlowBegin, SlowEnd, Marks, Format as FormatRecord}
 use Rattle.walter_base.specs.declared.names.Kind.TheVariants.{Regular}
 use Rattle.walter_base.specs.declared.names.ObjId.{ObjId}
 use Rattle.walter_base.specs.declared.names.SiteId.{SiteId}
@@ -199,6 +199,7 @@ module _ (catalog : Catalog) (i : SiteId) (K : Knowledge) (L : IsLearned catalog
   owners_then (SlowEnd n) f = unlock K.part K.owner L.owners i n (part_after catalog i K (Some (SlowEnd n)))
       (owner_after catalog i K (Some (SlowEnd n))) (λ k m. refl) (λ oid. refl)
   owners_then (Marks durable visible) f = L.owners
+  owners_then FormatRecord f = L.owners
 
   -- a part is as it was, or free, or over; or it is the one that was locked
   abbrev pub IsHere : Part → Type 0
@@ -250,6 +251,7 @@ module _ (catalog : Catalog) (i : SiteId) (K : Knowledge) (L : IsLearned catalog
   here_then (SlowEnd m) f j n = here_if (is_slow i m j n) (unlocked (K.part j n)) (K.part j n)
       (here_unlocked (K.part j n) (here_part j n)) (here_part j n)
   here_then (Marks durable visible) f j n = here_part j n
+  here_then FormatRecord f j n = here_part j n
 
   -- who is asked, and what is written, of each slow commit
   abbrev pub IsSlowOf : Slow → Type 0
@@ -312,6 +314,7 @@ module _ (catalog : Catalog) (i : SiteId) (K : Knowledge) (L : IsLearned catalog
   slow_then (SlowEnd m) f n = slow_if (nat_eq m n) (ended (K.slow n)) (K.slow n) (slow_ended (K.slow n) (slow_before n))
       (slow_before n)
   slow_then (Marks durable visible) f n = slow_before n
+  slow_then FormatRecord f n = slow_before n
 
   -- one more of a site of the catalog is none of another
   apart_same : (j k : SiteId) (counts : SiteId → ℕ) → j.0 < catalog.sites → catalog.sites ≤ k.0
@@ -344,6 +347,7 @@ module _ (catalog : Catalog) (i : SiteId) (K : Knowledge) (L : IsLearned catalog
   outside_then below (SlowBegin n tx) f k past = L.outside k past
   outside_then below (SlowEnd n) f k past = L.outside k past
   outside_then below (Marks durable visible) f k past = L.outside k past
+  outside_then below FormatRecord f k past = L.outside k past
 
   -- an own part is free, or of a number that was given
   abbrev pub IsGivenUpTo : ℕ → ℕ → Part → Type 0
@@ -394,6 +398,7 @@ module _ (catalog : Catalog) (i : SiteId) (K : Knowledge) (L : IsLearned catalog
   given_then (SlowEnd m) f n = given_if K.last n (is_slow i m i n) (unlocked (K.part i n)) (K.part i n)
       (given_unlocked K.last n (K.part i n) (L.given_ n)) (L.given_ n)
   given_then (Marks durable visible) f n = L.given_ n
+  given_then FormatRecord f n = L.given_ n
 
   -- an own lock goes with the slow commit that ends or is decided
   own_open_if : (m n : ℕ) (g : Slow) (a : Part) → IsOpenIfLocked a g
@@ -436,6 +441,7 @@ module _ (catalog : Catalog) (i : SiteId) (K : Knowledge) (L : IsLearned catalog
   own_open_then (SlowEnd m) f n = own_open_if m n (ended (K.slow n)) (unlocked (K.part i n))
       (own_open_unlocked n (ended (K.slow n)))
   own_open_then (Marks durable visible) f n = L.own_open n
+  own_open_then FormatRecord f n = L.own_open n
 
   -- the marks
   abbrev pub AreBelow : ℕ → ℕ → ℕ → Type 0
@@ -460,6 +466,7 @@ module _ (catalog : Catalog) (i : SiteId) (K : Knowledge) (L : IsLearned catalog
   marks_then (SlowBegin n tx) f = (L.durable, L.visible)
   marks_then (SlowEnd n) f = (L.durable, L.visible)
   marks_then (Marks durable visible) f = (f.durable_own, f.visible_own)
+  marks_then FormatRecord f = (L.durable, L.visible)
 
   -- a record that can follow keeps it
   pub learned_recorded : i.0 < catalog.sites → (rec : Record) → CanFollow catalog i K rec

@@ -25,7 +25,7 @@ use Rattle.walter_rules.specs.declared.outcome.Outcome.{Outcome}
 use Rattle.walter_rules.specs.declared.outcome.Outcome.TheVariants.{Replied}
 use Rattle.walter_rules.specs.Calls.{call_rule, if_told, down_rule, tells_level, level_of, is_issued, refuses, answers}
 use Rattle.walter_rules.specs.Knowledge.{Knowledge, session_of, vector_of}
-use Rattle.walter_rules.specs.Layouts.{Layout}
+use Rattle.walter_rules.specs.Layouts.{Layout, header_of}
 use Rattle.walter_rules.specs.Learning.{sessions_after, opened, closed, done, begun_by, updated, deciding, after, lost, recorded}
 use Rattle.walter_rules.specs.Rule.{rule, rule_where}
 use Rattle.walter_rules.specs.Sessions.{Session, Sessions, session_in}
@@ -120,10 +120,10 @@ down_not_started (Ok request) tid is = absurd (cc)
 
 module _ (catalog : Catalog) (layout : Layout) (i : SiteId) (S : Standing) where
   ruled_not_started : (c : ℕ) (call : Result Request Bad) (gone tid : Tid) → S.gone c ≡ Some gone
-      → (rule catalog i S (Given (Call c call))).outcome ≡ Replied (Started tid) → ⊥
+      → (rule (header_of layout) catalog i S (Given (Call c call))).outcome ≡ Replied (Started tid) → ⊥
   ruled_not_started c call gone tid is = at S.up
     where
-      at : (up : Bool) → (rule_where up catalog i S (Call c call)).outcome ≡ Replied (Started tid) → ⊥
+      at : (up : Bool) → (rule_where up (header_of layout) catalog i S (Call c call)).outcome ≡ Replied (Started tid) → ⊥
       at true started =
           told_not_started catalog i S.knows call gone tid (session_of S.knows c)
           (ap (λ o. (if_told call o (call_rule catalog i S.knows call (session_of S.knows c))).outcome) (sym is) ∙ started)

@@ -28,7 +28,7 @@ use Rattle.walter_rules.specs.declared.outcome.Outcome.TheVariants.{Failed, Full
 use Rattle.walter_rules.specs.Calls.{Expected, next_seq, if_local, decides, commits_open, commits_by, commits_for, commits_fast, call_rule, if_told}
 use Rattle.walter_rules.specs.Deliveries.{passes, takes, back, is_peer, is_enabled, advances, if_accepted, answer_over, prepares, prepares_by, if_lockable, if_peer, packet_rule}
 use Rattle.walter_rules.specs.Knowledge.{preferred, session_of}
-use Rattle.walter_rules.specs.Layouts.{Layout, need_of, left_behind, FitsIn}
+use Rattle.walter_rules.specs.Layouts.{Layout, header_of, need_in, left_behind, FitsIn}
 use Rattle.walter_rules.specs.Objects.{objects_of, are_local}
 use Rattle.walter_rules.specs.Rule.{rule_where, rule}
 use Rattle.walter_rules.specs.Sending.{Send}
@@ -82,7 +82,7 @@ module _ (catalog : Catalog) (layout : Layout) (i : SiteId) (S : Standing) (came
 
   -- where the rule has a record written
   written : (input : Input) (rec : Record) (sends : List Send) → IsOfPeers input
-      → rule catalog i S (Given input) ≡ takes (Some rec) sends
+      → rule (header_of layout) catalog i S (Given input) ≡ takes (Some rec) sends
       → Comes catalog layout i S (Given input) came → IsWritten layout S rec sends came
   written input rec sends of is (ruled fits as_ruled) =
       is_stable (subst (λ (x : Expected). IfSome x.wrote (FitsIn layout S)) is fits)
@@ -97,12 +97,12 @@ module _ (catalog : Catalog) (layout : Layout) (i : SiteId) (S : Standing) (came
   written input rec sends of is (no_memory takes_ only) = is_lost (only.outcome_is ∙ wants input of)
   written input rec sends of is (full r wrote low only) =
       let same : r ≡ rec = same_Some r rec (sym wrote ∙ ap (λ (x : Expected). x.wrote) is) in
-      is_full (subst (λ z. left_behind layout S < need_of z) same low)
-      (only.outcome_is ∙ fills input (need_of r) (left_behind layout S) of
-      ∙ ap (λ z. Full (need_of z) (left_behind layout S)) same)
+      is_full (subst (λ z. left_behind layout S < need_in layout S z) same low)
+      (only.outcome_is ∙ fills input (need_in layout S r) (left_behind layout S) of
+      ∙ ap (λ z. Full (need_in layout S z) (left_behind layout S)) same)
 
   -- where it has none
-  said : (input : Input) (sends : List Send) → IsOfPeers input → rule catalog i S (Given input) ≡ passes sends
+  said : (input : Input) (sends : List Send) → IsOfPeers input → rule (header_of layout) catalog i S (Given input) ≡ passes sends
       → Comes catalog layout i S (Given input) came → IsSaid S sends came
   said input sends of is (ruled fits as_ruled) =
       is_said (as_ruled.outcome ∙ ap (λ (x : Expected). x.outcome) is)
@@ -115,9 +115,9 @@ module _ (catalog : Catalog) (layout : Layout) (i : SiteId) (S : Standing) (came
 
   -- the rule of a packet of a peer
   peer_rule : (j : SiteId) (number : ℕ) (packet : Packet) → IsAtPeer catalog i S j
-      → rule catalog i S (Given (Deliver j number packet)) ≡ packet_rule catalog i S.knows j packet
+      → rule (header_of layout) catalog i S (Given (Deliver j number packet)) ≡ packet_rule catalog i S.knows j packet
   peer_rule j number packet at =
-      ap (λ b. rule_where b catalog i S (Deliver j number packet)) at.up
+      ap (λ b. rule_where b (header_of layout) catalog i S (Deliver j number packet)) at.up
       ∙ ap (λ b. if_peer b (packet_rule catalog i S.knows j packet)) at.peer
 
 -- a commit of a peer that is accepted
@@ -141,7 +141,7 @@ entry_seen catalog layout i older e j right due =
     let due_here : (is_peer catalog i j && is_enabled S.knows j) ≡ true = rw (due.at.peer, due.enabled) refl in
     written catalog layout i S e.came (Advance j) (Seen j (S.knows.committed j + 1))
     (back j (Visible (S.knows.committed j + 1))) tt
-    (ap (λ b. rule_where b catalog i S (Advance j)) due.at.up ∙ ap (advances S.knows j) due_here)
+    (ap (λ b. rule_where b (header_of layout) catalog i S (Advance j)) due.at.up ∙ ap (advances S.knows j) due_here)
     (given_comes catalog layout i older e (Advance j) right due.came)
 
 -- a PREPARE of objects that can be locked
@@ -151,7 +151,7 @@ module _ (catalog : Catalog) (layout : Layout) (i : SiteId) (S : Standing) (even
   abbrev pub prepare : Input
   prepare = Deliver j asked.number (Prepare n tid asked.start objects)
 
-  prepare_rule : rule catalog i S (Given prepare) ≡ prepares_by S.knows j n tid asked.start objects (S.knows.part j n)
+  prepare_rule : rule (header_of layout) catalog i S (Given prepare) ≡ prepares_by S.knows j n tid asked.start objects (S.knows.part j n)
   prepare_rule = peer_rule catalog layout i S came j asked.number (Prepare n tid asked.start objects) asked.at
       ∙ ap (λ b. if_lockable b S.knows j n tid asked.start objects) asked.lockable
 
@@ -209,10 +209,10 @@ module _ (catalog : Catalog) (layout : Layout) (i : SiteId) (S : Standing) (even
   commits_whole (u ∷ us) are = ap (decides catalog i S.knows s) free.clear
       ∙ ap (λ b. if_local b catalog i S.knows s) local_passes
 
-  rule_commits : rule catalog i S (Given (Call free.client (Ok Commit))) ≡ commits_fast catalog i S.knows s
+  rule_commits : rule (header_of layout) catalog i S (Given (Call free.client (Ok Commit))) ≡ commits_fast catalog i S.knows s
   rule_commits =
       let client : ℕ = free.client in
-      ap (λ b. rule_where b catalog i S (Call client (Ok Commit))) free.is_open.up
+      ap (λ b. rule_where b (header_of layout) catalog i S (Call client (Ok Commit))) free.is_open.up
       ∙ (ap (λ gone. if_told (Ok Commit) gone
       (call_rule catalog i S.knows (Ok Commit) (session_of S.knows client))) free.owed
       ∙ (ap (commits_for catalog i S.knows) free.is_open.session
@@ -221,7 +221,7 @@ module _ (catalog : Catalog) (layout : Layout) (i : SiteId) (S : Standing) (even
   abbrev pub due : Record
   due = Own (next_seq i S.knows) (tx_of s)
 
-  is_due : (rec : Record) → (rule catalog i S (Given (Call free.client (Ok Commit)))).wrote ≡ Some rec → due ≡ rec
+  is_due : (rec : Record) → (rule (header_of layout) catalog i S (Given (Call free.client (Ok Commit)))).wrote ≡ Some rec → due ≡ rec
   is_due rec is = same_Some due rec (sym (ap (λ (x : Expected). x.wrote) rule_commits) ∙ is)
 
   comes_answered : (came : Came) → Comes catalog layout i S (Given (Call free.client (Ok Commit))) came
@@ -237,8 +237,8 @@ module _ (catalog : Catalog) (layout : Layout) (i : SiteId) (S : Standing) (even
   comes_answered came (no_memory takes_ only) = wants_memory only.outcome_is
   comes_answered came (full rec wrote low only) =
       let same = is_due rec wrote in
-      is_refused (subst (λ r. left_behind layout S < need_of r) (sym same) low)
-      (only.outcome_is ∙ ap (λ r. fullness (Given (Call free.client (Ok Commit))) (need_of r)
+      is_refused (subst (λ r. left_behind layout S < need_in layout S r) (sym same) low)
+      (only.outcome_is ∙ ap (λ r. fullness (Given (Call free.client (Ok Commit))) (need_in layout S r)
       (left_behind layout S)) (sym same))
 
 pub entry_answered : (catalog : Catalog) (layout : Layout) (i : SiteId) (older : List Entry) (e : Entry) (s : Session)

@@ -26,7 +26,7 @@ use Rattle.walter_rules.specs.Conflicts.{first_conflict}
 use Rattle.walter_rules.specs.Declarations.{are_lockable}
 use Rattle.walter_rules.specs.Deliveries.{is_peer, accepts, is_enabled, back, answer_over}
 use Rattle.walter_rules.specs.Knowledge.{Knowledge}
-use Rattle.walter_rules.specs.Layouts.{Layout, need_of, left_behind, FitsIn}
+use Rattle.walter_rules.specs.Layouts.{Layout, need_in, left_behind, FitsIn}
 use Rattle.walter_rules.specs.Objects.{objects_at}
 use Rattle.walter_rules.specs.Sending.{Send}
 use Rattle.walter_rules.specs.Sessions.{Session, tx_of}
@@ -56,7 +56,7 @@ pub data IsCommitAnswer (i : SiteId) (K : Knowledge) (s : Session) (need left : 
 
 abbrev pub IsAnswered : Layout → SiteId → Standing → Session → Outcome → Type 0
 IsAnswered layout i S s outcome =
-    IsCommitAnswer i S.knows s (need_of (Own (next_seq i S.knows) (tx_of s))) (left_behind layout S) outcome
+    IsCommitAnswer i S.knows s (need_in layout S (Own (next_seq i S.knows) (tx_of s))) (left_behind layout S) outcome
 
 -- This record is to be journaled, and this to be put out. Where the record fits, it is stable, and the packets are
 -- put out or counted as lost; or the disk fails, and it is in flight. Where it doesn't fit, the outcome says so; and
@@ -67,8 +67,8 @@ pub data IsWritten (layout : Layout) (S : Standing) (rec : Record) (sends : List
       → IsWritten layout S rec sends came
   is_flying : FitsIn layout S rec → came.flight ≡ Some rec → came.outcome ≡ Failed
       → IsWritten layout S rec sends came
-  is_full : left_behind layout S < need_of rec
-      → came.outcome ≡ Full (need_of rec) (left_behind layout S)
+  is_full : left_behind layout S < need_in layout S rec
+      → came.outcome ≡ Full (need_in layout S rec) (left_behind layout S)
       → IsWritten layout S rec sends came
   is_lost : came.outcome ≡ Memory → IsWritten layout S rec sends came
 

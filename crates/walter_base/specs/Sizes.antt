@@ -1,8 +1,10 @@
 -- How many bytes spell a transaction, a record and a packet (docs/FORMATS.md, "Transaction", "Record" and "Packet"), and
 -- which are small enough to be spelled.
 use Rattle.std.specs.Prelude.{ℕ, ◌+◌, ◌*◌, ◌≤◌, List, length, sum_by, All, Some}
+use Rattle.walter_base.specs.declared.format.Format.{Format}
+use Rattle.walter_base.specs.declared.format.Format.TheVariants.{First, Second}
 use Rattle.walter_base.specs.declared.message.Record.{Record}
-use Rattle.walter_base.specs.declared.message.Record.TheVariants.{Boot, Own, Got, Seen, Prepared, Released, SlowBegin, SlowEnd, Marks}
+use Rattle.walter_base.specs.declared.message.Record.TheVariants.{Boot, Own, Got, Seen, Prepared, Released, SlowBegin, SlowEnd, Marks, Format as FormatRecord}
 use Rattle.walter_base.specs.declared.names.ObjId.{ObjId}
 use Rattle.walter_base.specs.declared.packet.Packet.{Packet}
 use Rattle.walter_base.specs.declared.packet.Packet.TheVariants.{Propagate, Ack, Dsmark, Visible, Prepare, Vote, Release, Released as ReleasedSaid}
@@ -29,16 +31,31 @@ size_of_updates updates = 87 + sum_by size_of_update updates
 abbrev pub size_of : Tx → ℕ
 size_of tx = size_of_updates tx.updates
 
-abbrev pub size_of_record : Record → ℕ
-size_of_record (Boot epoch) = 5
-size_of_record (Own seq tx) = 9 + size_of tx
-size_of_record (Got site seq tx) = 10 + size_of tx
-size_of_record (Seen site seq) = 10
-size_of_record (Prepared site slow tid objects) = 25 + 12 * length objects
-size_of_record (Released site slow) = 10
-size_of_record (SlowBegin slow tx) = 9 + size_of tx
-size_of_record (SlowEnd slow) = 9
-size_of_record (Marks durable visible) = 17
+-- how many sites may stand in a vector of the format
+abbrev pub most_in : Format → ℕ
+most_in First = 8
+most_in Second = most_sites
+
+-- the bytes of a vector: eight numbers; or its width, and so many numbers
+abbrev pub size_of_vector : Format → List ℕ → ℕ
+size_of_vector First vector = 64
+size_of_vector Second vector = 1 + 8 * length vector
+
+-- the bytes of a transaction in the format. The limit goes by those of the first.
+abbrev pub size_in : Format → Tx → ℕ
+size_in format tx = 23 + size_of_vector format tx.start + sum_by size_of_update tx.updates
+
+abbrev pub size_of_record : Format → Record → ℕ
+size_of_record format (Boot epoch) = 5
+size_of_record format (Own seq tx) = 9 + size_in format tx
+size_of_record format (Got site seq tx) = 10 + size_in format tx
+size_of_record format (Seen site seq) = 10
+size_of_record format (Prepared site slow tid objects) = 25 + 12 * length objects
+size_of_record format (Released site slow) = 10
+size_of_record format (SlowBegin slow tx) = 9 + size_in format tx
+size_of_record format (SlowEnd slow) = 9
+size_of_record format (Marks durable visible) = 17
+size_of_record format FormatRecord = 2
 
 abbrev pub size_of_conflict : Conflict → ℕ
 size_of_conflict (Modified oid version) = 22
@@ -46,11 +63,11 @@ size_of_conflict (Locked oid owner) = 26
 size_of_conflict Dead = 1
 
 abbrev pub size_of_packet : Packet → ℕ
-size_of_packet (Propagate seq tx) = 9 + size_of tx
+size_of_packet (Propagate seq tx) = 9 + size_in Second tx
 size_of_packet (Ack got) = 9
 size_of_packet (Dsmark durable) = 9
 size_of_packet (Visible committed) = 9
-size_of_packet (Prepare slow tid start objects) = 88 + 12 * length objects
+size_of_packet (Prepare slow tid start objects) = 24 + size_of_vector Second start + 12 * length objects
 size_of_packet (Vote slow Yes) = 10
 size_of_packet (Vote slow (No conflict)) = 10 + size_of_conflict conflict
 size_of_packet (Vote slow Later) = 10
@@ -92,6 +109,7 @@ CanBeRecorded (Released site slow) = Unit {0}
 CanBeRecorded (SlowBegin slow tx) = CanBeSpelled tx
 CanBeRecorded (SlowEnd slow) = Unit {0}
 CanBeRecorded (Marks durable visible) = Unit {0}
+CanBeRecorded FormatRecord = Unit {0}
 
 -- the sizes of a packet that has a spelling
 abbrev pub CanBeSent : Packet → Type 0

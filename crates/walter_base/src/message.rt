@@ -187,6 +187,8 @@ pub enum Record {
     SlowEnd(u64),
     /// So many of the site's own commits are durable, and so many visible, from the first on.
     Marks(u64, u64),
+    /// The records behind it are spelled in the second format.
+    Format,
 }
 
 impl Clone for Record {
@@ -205,6 +207,7 @@ impl Clone for Record {
             Record::SlowBegin(slow, tx) => Ok(Record::SlowBegin(*slow, tx.clone()?)),
             Record::SlowEnd(slow) => Ok(Record::SlowEnd(*slow)),
             Record::Marks(durable, visible) => Ok(Record::Marks(*durable, *visible)),
+            Record::Format => Ok(Record::Format),
         }
     }
 }

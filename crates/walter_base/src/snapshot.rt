@@ -1,24 +1,28 @@
-ghost use Rattle.std.specs.Prelude.{◌≡◌, IfOk};
+ghost use Rattle.std.specs.Prelude.{◌≡◌, ◌≤◌, ◌<◌, ◌^◌, length, All, IfOk};
+ghost use Rattle.walter_base.specs.Vectors.{most_sites};
 
 use crate::vts::Vts;
 use std::alloc::{AllocError, Global};
 use std::marker::Model;
-use std::sync::Arc;
+use std::sync::ArcSlice;
 
-/// The vector that a transaction reads at. It is on the heap once, for all that speak of the transaction: a copy takes
-/// no memory. Contracts see the vector.
+/// The vector that a transaction reads at. Its numbers, of the sites that there are, are on the heap once, for all that
+/// speak of the transaction: a copy takes no memory. Contracts see the vector.
 #[derive(Debug, Drop)]
 pub struct Snapshot {
-    vector: Arc<Vts, Global>,
+    numbers: ArcSlice<u64, Global>,
 }
 
 impl Model for Snapshot {
-    ghost use Rattle.std.specs.Prelude.{ℕ, List};
-    ghost use Rattle.std.specs.Arc.{arc_value};
+    ghost use Rattle.std.specs.Prelude.{◌≤◌, ℕ, List, length};
+    ghost use Rattle.std.specs.Arc.{arc_slice_items};
+    ghost use Rattle.walter_base.specs.Vectors.{most_sites};
 
     ghost Value = { List ℕ };
 
-    ghost view = { λ s. arc_value s.vector };
+    ghost view = { λ s. arc_slice_items s.numbers };
+
+    ghost invariant = { λ s. length (arc_slice_items s.numbers) ≤ most_sites };
 }
 
 impl Snapshot {
@@ -26,14 +30,14 @@ impl Snapshot {
         ensures { IfOk result (λ s. s ≡ vector) }
     {
         Ok(Snapshot {
-            vector: Arc::new(alloc, vector)?,
+            numbers: ArcSlice::from_slice(alloc, vector.as_slice())?,
         })
     }
 
-    pub fn vector(&self) -> &Vts
-        ensures { result.now ≡ self.now }
+    pub fn vector(&self) -> Vts
+        ensures { result ≡ self.now }
     {
-        &self.vector
+        Vts::from_slice(&self.numbers)
     }
 }
 
@@ -42,7 +46,7 @@ impl Clone for Snapshot {
 
     fn clone(&self) -> Result<Snapshot, AllocError> {
         Ok(Snapshot {
-            vector: self.vector.clone()?,
+            numbers: self.numbers.clone()?,
         })
     }
 }

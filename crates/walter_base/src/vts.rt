@@ -5,7 +5,7 @@ use crate::names::{SiteId, Version};
 use std::marker::Model;
 
 /// How many sites there may be.
-pub const MOST_SITES: usize = 8;
+pub const MOST_SITES: usize = 16;
 
 /// A number for each site: how many of its commits are meant, from the first on. Contracts see the list of them.
 #[derive(Clone, Copy, Debug)]
@@ -44,6 +44,27 @@ impl Vts {
         }
     }
 
+    /// The vector of these numbers, one for each site.
+    pub fn from_slice(numbers: &[u64]) -> Vts
+        requires { length numbers.now ≤ most_sites }
+        ensures { result ≡ numbers.now }
+    {
+        let mut entries = [0; MOST_SITES];
+        entries[..numbers.len()].copy_from_slice(numbers);
+        Vts {
+            sites: numbers.len() as u8,
+            entries,
+        }
+    }
+
+    /// The numbers of the sites that it has.
+    pub fn as_slice(&self) -> &[u64]
+        ensures same { result.now ≡ self.now }
+        ensures few { length self.now ≤ most_sites }
+    {
+        &self.entries[..usize::from(self.sites)]
+    }
+
     /// The number of the site, 0 for one that the vector doesn't have.
     #[tactic(auto, using(crate::specs::Padding::at_front))]
     pub fn get(&self, site: SiteId) -> u64
@@ -53,14 +74,15 @@ impl Vts {
     }
 
     /// Whether it is at least as great as the other one at each site.
-    #[tactic(auto, using(crate::specs::Padding::at_front))]
     pub fn covers(&self, other: &Vts) -> bool
         ensures { IsTrue result ↔ Covers self.now other.now }
     {
-        self.entries
-            .iter()
-            .zip(other.entries.iter())
-            .all(|(mine, theirs)| *mine >= *theirs)
+        for (site, theirs) in other.as_slice().iter().enumerate() {
+            if self.get(SiteId(site as u8)) < *theirs {
+                return false;
+            }
+        }
+        true
     }
 
     /// Whether the version is among the commits that are meant.

@@ -1,5 +1,5 @@
 -- Sites as bits, and what a site holds by its bit.
-use Rattle.std.proofs.Common.{◌≡◌, ◌∙◌, ◌*◌, ◌%◌, ◌^◌, ◌<◌, ◌≤◌, ℕ, Bool, true, false, nat_eq, nat_le, ◌||◌, List, ◌∷◌, ◌++◌, [], length, get_or, bit_or, All, w16, inl, inr, refl, ap, sym, subst, arith, if◌then◌else◌}
+use Rattle.std.proofs.Common.{◌≡◌, ◌∙◌, ◌*◌, ◌%◌, ◌^◌, ◌<◌, ◌≤◌, ℕ, Bool, true, false, nat_eq, nat_le, ◌||◌, List, ◌∷◌, ◌++◌, [], length, get_or, bit_or, All, w32, inl, inr, refl, ap, sym, subst, arith, if◌then◌else◌}
 use Rattle.std.specs.Int.{bit_at}
 use Rattle.std.proofs.Math.ListN.{get_or-eq_default}
 use Rattle.std.proofs.lemmas.Bool.{cases_lt, cases_eq, eqb-true, eq-eqb, ne_eqb, lt-leb, or_right}
@@ -16,9 +16,9 @@ or_none false = refl
 
 -- with the bit of one more site
 pub bits_with : (bits : ℕ) (sites : List SiteId) (site : SiteId) → AreBitsOf bits sites
-    → AreBitsOf (bit_or bits (1 * 2 ^ place_of site % 2 ^ 16)) (sites ++ site ∷ [])
+    → AreBitsOf (bit_or bits (1 * 2 ^ place_of site % 2 ^ 32)) (sites ++ site ∷ [])
 bits_with bits sites site are place =
-    let fits : place_of site < 16 = omega arith in
+    let fits : place_of site < 32 = omega arith in
     let more : has_place (sites ++ site ∷ []) place ≡ (has_place sites place || nat_eq (place_of site) place) =
     list_any-append (λ it. nat_eq (place_of it) place) sites (site ∷ [])
     ∙ ap (λ b. has_place sites place || b) (or_none (nat_eq (place_of site) place)) in
@@ -27,14 +27,14 @@ bits_with bits sites site are place =
       | inl same ↦
           let here = or_right (has_place sites place) (nat_eq (place_of site) place)
           (eq-eqb (place_of site) place (sym same)) in
-          subst (λ k. bit_at (bit_or bits (1 * 2 ^ place_of site % 2 ^ 16)) k ≡ 1) (sym same)
-          (bit_at_set_same w16 bits (place_of site) fits)
+          subst (λ k. bit_at (bit_or bits (1 * 2 ^ place_of site % 2 ^ 32)) k ≡ 1) (sym same)
+          (bit_at_set_same w32 bits (place_of site) fits)
           ∙ sym (told ∙ ap (λ b. if b then 1 else 0) here)
       | inr other ↦
           let none = ne_eqb (place_of site) place (λ is. other (sym is)) in
           let as_before : (has_place sites place || nat_eq (place_of site) place) ≡ has_place sites place =
           ap (λ b. has_place sites place || b) none ∙ or_none (has_place sites place) in
-          bit_at_set_other w16 bits (place_of site) fits place other ∙ are place
+          bit_at_set_other w32 bits (place_of site) fits place other ∙ are place
           ∙ sym (told ∙ ap (λ b. if b then 1 else 0) as_before)
     ]
 

@@ -5,10 +5,10 @@ use crate::ghost_sites::{GhostSites, Listing};
 use std::marker::Model;
 use walter_base::{MOST_SITES, SiteId};
 
-/// The preferred sites of the objects that an own commit changed, in two bytes. Contracts see the list of them.
+/// The preferred sites of the objects that an own commit changed, in four bytes. Contracts see the list of them.
 #[derive(Drop)]
 pub struct PreferredSites {
-    bits: u16,
+    bits: u32,
     sites: GhostSites,
 }
 
@@ -52,7 +52,7 @@ impl PreferredSites {
 
     /// Whether a site of them has the place.
     pub(crate) fn has(&self, place: u8) -> bool
-        requires { place < 16 }
+        requires { place < 32 }
         ensures { result ≡ has_place self.now place }
     {
         self.bits >> place & 1 == 1

@@ -1,6 +1,7 @@
 -- The run of three sites is right and linked, and spells its history.
 use Rattle.std.proofs.Common.{◌≡◌, ℕ, List, [], refl, sym, subst, arith}
 use Rattle.walter_base.specs.declared.catalog.Catalog.{Catalog}
+use Rattle.walter_base.specs.declared.format.Format.TheVariants.{First}
 use Rattle.walter_rules.specs.Layouts.{one_area}
 use Rattle.walter_rules.specs.Merges.{merge}
 use Rattle.walter_runs.specs.Runs.{AreRightTrails}
@@ -17,7 +18,7 @@ causal_told catalog cause effect = refl
 module _ (catalog : Catalog) (capacity : ℕ) (cause effect : List ℕ)
     (holds : HoldsCausalOrder (among 3 catalog) capacity cause effect) where
   -- each entry of the three trails comes to what the rules say
-  right_0 : FollowRightly (among 3 catalog) (one_area capacity) (site 0) [] (trail_0 cause)
+  right_0 : FollowRightly (among 3 catalog) (one_area capacity First) (site 0) [] (trail_0 cause)
   right_0 =
       let room = holds.place in
       let short = short_enough cause holds.short_cause in
@@ -28,7 +29,7 @@ module _ (catalog : Catalog) (capacity : ℕ) (cause effect : List ℕ)
       ⨾ by_rule refl refl (simp holds.container_one) (omega (arith, room))
       ⨾ tt
 
-  right_1 : FollowRightly (among 3 catalog) (one_area capacity) (site 1) [] (trail_1 cause effect)
+  right_1 : FollowRightly (among 3 catalog) (one_area capacity First) (site 1) [] (trail_1 cause effect)
   right_1 =
       let room = holds.place in
       let short = short_enough effect holds.short_effect in
@@ -43,7 +44,7 @@ module _ (catalog : Catalog) (capacity : ℕ) (cause effect : List ℕ)
       ⨾ by_rule refl refl (simp holds.container_two) (omega (arith, room))
       ⨾ tt
 
-  right_2 : FollowRightly (among 3 catalog) (one_area capacity) (site 2) [] (trail_2 cause effect)
+  right_2 : FollowRightly (among 3 catalog) (one_area capacity First) (site 2) [] (trail_2 cause effect)
   right_2 =
       let room = holds.place in
       by_rule refl refl refl (omega (arith, room))
@@ -72,12 +73,12 @@ links_2 cause effect =
 
 -- so the trails are right
 pub causal_right : (catalog : Catalog) (capacity : ℕ) (cause effect : List ℕ)
-    → HoldsCausalOrder catalog capacity cause effect → AreRightTrails catalog (λ k. one_area capacity) (causal_trails cause effect)
+    → HoldsCausalOrder catalog capacity cause effect → AreRightTrails catalog (λ k. one_area capacity First) (causal_trails cause effect)
 causal_right catalog capacity cause effect holds =
     let same = same_catalog 3 catalog holds.sites holds.tolerated in
     let has = subst (λ c. HoldsCausalOrder c capacity cause effect) (sym same) holds in
-    subst (λ c. AreRightTrails c (λ k. one_area capacity) (causal_trails cause effect)) same
-    (right_trails (among 3 catalog) (one_area capacity) (causal_trails cause effect) refl
+    subst (λ c. AreRightTrails c (λ k. one_area capacity First) (causal_trails cause effect)) same
+    (right_trails (among 3 catalog) (one_area capacity First) (causal_trails cause effect) refl
     (right_trail refl (right_0 catalog capacity cause effect has)
     ⨾ right_trail refl (right_1 catalog capacity cause effect has)
     ⨾ right_trail refl (right_2 catalog capacity cause effect has)

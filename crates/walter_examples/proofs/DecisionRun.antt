@@ -2,6 +2,7 @@
 use Rattle.std.proofs.Common.{◌≡◌, ℕ, List, [], reverse, take, refl, sym, subst, arith}
 use Rattle.walter_base.specs.declared.catalog.Catalog.{Catalog}
 use Rattle.walter_base.specs.declared.message.Record.TheVariants.{Own}
+use Rattle.walter_base.specs.declared.format.Format.TheVariants.{First}
 use Rattle.walter_rules.specs.Layouts.{one_area}
 use Rattle.walter_rules.specs.Merges.{merge}
 use Rattle.walter_rules.specs.Trails.{all_out, ruled, met_fault, IsRightEntry}
@@ -19,7 +20,7 @@ decision_told catalog value = refl
 module _ (catalog : Catalog) (capacity : ℕ) (value : List ℕ)
     (holds : HoldsDecision (among 2 catalog) capacity value) where
   -- each entry of site 0 comes to what the rules say
-  asked_right : FollowRightly (among 2 catalog) (one_area capacity) (site 0) [] (asked_trail value)
+  asked_right : FollowRightly (among 2 catalog) (one_area capacity First) (site 0) [] (asked_trail value)
   asked_right =
       let room = holds.place in
       by_rule refl refl refl (omega (arith, room))
@@ -30,7 +31,7 @@ module _ (catalog : Catalog) (capacity : ℕ) (value : List ℕ)
       ⨾ tt
 
   -- at site 1 the record of the decision meets a fault of the disk
-  fails : IsRightEntry (among 2 catalog) (one_area capacity) (site 1)
+  fails : IsRightEntry (among 2 catalog) (one_area capacity First) (site 1)
       (reverse (take 4 (coordinator_trail value))) (failed_decision value)
   fails =
       let room = holds.place in
@@ -42,7 +43,7 @@ module _ (catalog : Catalog) (capacity : ℕ) (value : List ℕ)
       }
 
   -- the restart finds it
-  keeps : IsRightEntry (among 2 catalog) (one_area capacity) (site 1)
+  keeps : IsRightEntry (among 2 catalog) (one_area capacity First) (site 1)
       (reverse (take 5 (coordinator_trail value))) (kept_decision value)
   keeps =
       let room = holds.place in
@@ -53,7 +54,7 @@ module _ (catalog : Catalog) (capacity : ℕ) (value : List ℕ)
       }
 
   -- and each other entry comes to what the rules say
-  coordinator_right : FollowRightly (among 2 catalog) (one_area capacity) (site 1) [] (coordinator_trail value)
+  coordinator_right : FollowRightly (among 2 catalog) (one_area capacity First) (site 1) [] (coordinator_trail value)
   coordinator_right =
       let room = holds.place in
       let short = short_enough value holds.short in
@@ -82,12 +83,12 @@ coordinator_links value = link 0 5 refl refl (omega arith) refl ⨾ link 1 10 re
 
 -- so the trails are right
 pub decision_right : (catalog : Catalog) (capacity : ℕ) (value : List ℕ)
-    → HoldsDecision catalog capacity value → AreRightTrails catalog (λ k. one_area capacity) (decision_trails value)
+    → HoldsDecision catalog capacity value → AreRightTrails catalog (λ k. one_area capacity First) (decision_trails value)
 decision_right catalog capacity value holds =
     let same = same_catalog 2 catalog holds.sites holds.tolerated in
     let has = subst (λ c. HoldsDecision c capacity value) (sym same) holds in
-    subst (λ c. AreRightTrails c (λ k. one_area capacity) (decision_trails value)) same
-    (right_trails (among 2 catalog) (one_area capacity) (decision_trails value) refl
+    subst (λ c. AreRightTrails c (λ k. one_area capacity First) (decision_trails value)) same
+    (right_trails (among 2 catalog) (one_area capacity First) (decision_trails value) refl
     (right_trail refl (asked_right catalog capacity value has)
     ⨾ right_trail refl (coordinator_right catalog capacity value has)
     ⨾ tt)

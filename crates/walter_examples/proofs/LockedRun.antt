@@ -1,6 +1,7 @@
 -- The run of two sites whose second commit meets the lock of its cause is right and linked, and spells its history.
 use Rattle.std.proofs.Common.{◌≡◌, ℕ, List, [], refl, sym, subst, arith}
 use Rattle.walter_base.specs.declared.catalog.Catalog.{Catalog}
+use Rattle.walter_base.specs.declared.format.Format.TheVariants.{First}
 use Rattle.walter_rules.specs.Layouts.{one_area}
 use Rattle.walter_rules.specs.Merges.{merge}
 use Rattle.walter_runs.specs.Runs.{AreRightTrails}
@@ -17,7 +18,7 @@ locked_told catalog first second = refl
 module _ (catalog : Catalog) (capacity : ℕ) (first second : List ℕ)
     (holds : HoldsLockedCause (among 2 catalog) capacity first second) where
   -- each entry of site 0 comes to what the rules say
-  owner_right : FollowRightly (among 2 catalog) (one_area capacity) (site 0) [] (owner_trail first)
+  owner_right : FollowRightly (among 2 catalog) (one_area capacity First) (site 0) [] (owner_trail first)
   owner_right =
       let room = holds.place in
       by_rule refl refl refl (omega (arith, room))
@@ -31,7 +32,7 @@ module _ (catalog : Catalog) (capacity : ℕ) (first second : List ℕ)
       ⨾ tt
 
   -- and of site 1
-  twice_right : FollowRightly (among 2 catalog) (one_area capacity) (site 1) [] (twice_trail first second)
+  twice_right : FollowRightly (among 2 catalog) (one_area capacity First) (site 1) [] (twice_trail first second)
   twice_right =
       let room = holds.place in
       let first_short = short_enough first holds.first_short in
@@ -72,12 +73,12 @@ twice_links first second =
 
 -- so the trails are right
 pub locked_right : (catalog : Catalog) (capacity : ℕ) (first second : List ℕ)
-    → HoldsLockedCause catalog capacity first second → AreRightTrails catalog (λ k. one_area capacity) (locked_trails first second)
+    → HoldsLockedCause catalog capacity first second → AreRightTrails catalog (λ k. one_area capacity First) (locked_trails first second)
 locked_right catalog capacity first second holds =
     let same = same_catalog 2 catalog holds.sites holds.tolerated in
     let has = subst (λ c. HoldsLockedCause c capacity first second) (sym same) holds in
-    subst (λ c. AreRightTrails c (λ k. one_area capacity) (locked_trails first second)) same
-    (right_trails (among 2 catalog) (one_area capacity) (locked_trails first second) refl
+    subst (λ c. AreRightTrails c (λ k. one_area capacity First) (locked_trails first second)) same
+    (right_trails (among 2 catalog) (one_area capacity First) (locked_trails first second) refl
     (right_trail refl (owner_right catalog capacity first second has)
     ⨾ right_trail refl (twice_right catalog capacity first second has)
     ⨾ tt)

@@ -11,10 +11,10 @@ use Rattle.walter_base.specs.Sizes.{size_of_updates}
 use Rattle.walter_rules.specs.declared.entry.Entry.{Entry}
 use Rattle.walter_rules.specs.declared.event.Event.{Event}
 use Rattle.walter_rules.specs.declared.event.Event.TheVariants.{Given, Stop, Restart}
-use Rattle.walter_rules.specs.declared.event.Input.TheVariants.{Call, Deliver, Advance, Tick}
+use Rattle.walter_rules.specs.declared.event.Input.TheVariants.{Call, Deliver, Advance, Tick, Upgrade}
 use Rattle.walter_rules.specs.Calls.{Expected}
 use Rattle.walter_rules.specs.Knowledge.{site_at}
-use Rattle.walter_rules.specs.Layouts.{Layout, FitsIn}
+use Rattle.walter_rules.specs.Layouts.{Layout, header_of, FitsIn}
 use Rattle.walter_rules.specs.Merges.{put_out_to, trail_of, IsLinked, AreLinked}
 use Rattle.walter_rules.specs.Rule.{rule}
 use Rattle.walter_rules.specs.Sending.{Send}
@@ -59,7 +59,7 @@ plain e = entry e.stamp e.event (expected_of e)
 -- it comes to what the rule says, where it says just that, and the record has a place
 pub by_rule : {catalog : Catalog} {layout : Layout} {i : SiteId} {older : List Entry} {e : Entry}
     → plain e ≡ e → IsNextStamp e.event (clock older) e.stamp
-    → rule catalog i (standing catalog i older) e.event ≡ expected_of e
+    → rule (header_of layout) catalog i (standing catalog i older) e.event ≡ expected_of e
     → IfSome e.came.wrote (FitsIn layout (standing catalog i older))
     → IsRightEntry catalog layout i older e
 by_rule {catalog} {layout} {i} {older} {e} is next said fits =
@@ -148,6 +148,7 @@ rest_of trails i last stamp (Given (Call client call)) rest linked = linked
 rest_of trails i last stamp (Given (Deliver j number packet)) rest linked = linked.1
 rest_of trails i last stamp (Given (Advance j)) rest linked = linked
 rest_of trails i last stamp (Given Tick) rest linked = linked
+rest_of trails i last stamp (Given Upgrade) rest linked = linked
 rest_of trails i last stamp Stop rest linked = linked
 rest_of trails i last stamp Restart rest linked = linked
 

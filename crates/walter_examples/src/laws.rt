@@ -4,6 +4,7 @@ ghost use Rattle.walter_examples.specs.CausalOrder.{HoldsCausalOrder, causal_tra
 ghost use Rattle.walter_examples.specs.DecisionInFlight.{HoldsDecision, decision_trails, decision_history};
 ghost use Rattle.walter_examples.specs.LockedByACause.{HoldsLockedCause, locked_trails, locked_history};
 ghost use Rattle.walter_refinement.specs.Spelled.{psi_of};
+ghost use Rattle.walter_base.specs.declared.format.Format.TheVariants.{First};
 ghost use Rattle.walter_rules.specs.Layouts.{one_area};
 ghost use Rattle.walter_rules.specs.Merges.{merge};
 ghost use Rattle.walter_runs.specs.Runs.{AreRightTrails};
@@ -15,16 +16,16 @@ ghost use Rattle.walter_runs.specs.Runs.{AreRightTrails};
 pub fn examples_spell()
     ensures causal_right { (catalog : Catalog) (capacity : ℕ) (cause effect : List ℕ)
         → HoldsCausalOrder catalog capacity cause effect
-        → AreRightTrails catalog (λ k. one_area capacity) (causal_trails cause effect) }
+        → AreRightTrails catalog (λ k. one_area capacity First) (causal_trails cause effect) }
     ensures causal_history { (catalog : Catalog) (cause effect : List ℕ)
         → psi_of catalog (merge (causal_trails cause effect)) ≡ causal_history cause effect }
     ensures decision_right { (catalog : Catalog) (capacity : ℕ) (value : List ℕ)
-        → HoldsDecision catalog capacity value → AreRightTrails catalog (λ k. one_area capacity) (decision_trails value) }
+        → HoldsDecision catalog capacity value → AreRightTrails catalog (λ k. one_area capacity First) (decision_trails value) }
     ensures decision_history { (catalog : Catalog) (value : List ℕ)
         → psi_of catalog (merge (decision_trails value)) ≡ decision_history value }
     ensures locked_right { (catalog : Catalog) (capacity : ℕ) (first second : List ℕ)
         → HoldsLockedCause catalog capacity first second
-        → AreRightTrails catalog (λ k. one_area capacity) (locked_trails first second) }
+        → AreRightTrails catalog (λ k. one_area capacity First) (locked_trails first second) }
     ensures locked_history { (catalog : Catalog) (first second : List ℕ)
         → psi_of catalog (merge (locked_trails first second)) ≡ locked_history first second }
 {}

@@ -2,7 +2,7 @@
 use Rattle.std.specs.Prelude.{◌≡◌, ◌≢◌, ◌+◌, ◌-◌, ◌<◌, ◌≤◌, ◌⊎◌, ℕ, false, List, [], length, slice_get, Some, Contains, if◌then◌else◌}
 use Rattle.walter_base.specs.declared.catalog.Catalog.{Catalog}
 use Rattle.walter_base.specs.declared.message.Record.{Record}
-use Rattle.walter_base.specs.declared.message.Record.TheVariants.{Boot, Own, Got, Seen, Prepared, Released, SlowBegin, SlowEnd, Marks}
+use Rattle.walter_base.specs.declared.message.Record.TheVariants.{Boot, Own, Got, Seen, Prepared, Released, SlowBegin, SlowEnd, Marks, Format as FormatRecord}
 use Rattle.walter_base.specs.declared.names.ObjId.{ObjId}
 use Rattle.walter_base.specs.declared.names.SiteId.{SiteId}
 use Rattle.walter_base.specs.declared.names.Tid.{Tid}
@@ -149,6 +149,7 @@ IsDue catalog W put i (Released j n) = (j ≢ i) × put j i (Release n)
 IsDue catalog W put i (SlowBegin n x) = IsDueSlow catalog W i n x
 IsDue catalog W put i (SlowEnd n) = Unit {0}
 IsDue catalog W put i (Marks durable visible) = Unit {0}
+IsDue catalog W put i FormatRecord = Unit {0}
 
 -- the parts of the invariant that speak of no history
 pub record AreAgreed (catalog : Catalog) (W : Stands) (put : Put) : Type 0 where

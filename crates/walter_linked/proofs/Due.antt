@@ -20,7 +20,7 @@ use Rattle.walter_rules.specs.declared.event.Event.TheVariants.{Given}
 use Rattle.walter_rules.specs.declared.event.Input.TheVariants.{Deliver}
 use Rattle.walter_rules.specs.declared.held.Held.{Held}
 use Rattle.walter_rules.specs.declared.outcome.Outcome.{Outcome}
-use Rattle.walter_rules.specs.Allowed.{IsKind, is_refused, starts, does, reads, ends, aborts, conflicts, commits, begins, waits, tells_version, tells_cause, levels_own, is_deciding, is_running, denies, passes, receives, hears_ack, hears_durable, hears_visible, marks_durable, marks_visible, prepares, hears_yes, decides, gives_up, releases, hears_released, sees, stops, is_down, boots, HaveSaidYes}
+use Rattle.walter_rules.specs.Allowed.{IsKind, is_refused, starts, does, reads, ends, aborts, conflicts, commits, begins, waits, tells_version, tells_cause, levels_own, is_deciding, is_running, denies, passes, receives, hears_ack, hears_durable, hears_visible, marks_durable, marks_visible, prepares, hears_yes, decides, gives_up, releases, hears_released, sees, upgrades, stops, is_down, boots, HaveSaidYes}
 use Rattle.walter_rules.specs.Conflicts.{conflict_at}
 use Rattle.walter_rules.specs.Knowledge.{Knowledge}
 use Rattle.walter_rules.specs.Log.{version_of, wrote, row, sees as does_see}
@@ -196,5 +196,6 @@ module _ (catalog : Catalog) (homes : (oid : ObjId) → (home catalog oid).0 < c
     covered = due.covered;
   }
   due_of event record_ outcome (stops up) puts = tt
+  due_of event record_ outcome (upgrades up first) puts = tt
   due_of event record_ outcome (is_down event_) puts = tt
   due_of event record_ outcome (boots down) puts = tt

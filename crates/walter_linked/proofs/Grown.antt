@@ -6,7 +6,7 @@ use Rattle.std.proofs.lemmas.List.Elements.{filter-append}
 use Rattle.std.proofs.lemmas.Bool.{cases_eq, ne_eqb}
 use Rattle.walter_base.specs.declared.catalog.Catalog.{Catalog}
 use Rattle.walter_base.specs.declared.message.Record.{Record}
-use Rattle.walter_base.specs.declared.message.Record.TheVariants.{Boot, Own, Got, Seen, Prepared, Released, SlowBegin, SlowEnd, Marks}
+use Rattle.walter_base.specs.declared.message.Record.TheVariants.{Boot, Own, Got, Seen, Prepared, Released, SlowBegin, SlowEnd, Marks, Format as FormatRecord}
 use Rattle.walter_base.specs.declared.names.ObjId.{ObjId}
 use Rattle.walter_base.specs.declared.names.SiteId.{SiteId}
 use Rattle.walter_base.specs.declared.names.Tid.{Tid}
@@ -73,6 +73,7 @@ log_grows (Some (Released j n)) log = prefix_refl log
 log_grows (Some (SlowBegin n x)) log = prefix_refl log
 log_grows (Some (SlowEnd n)) log = prefix_refl log
 log_grows (Some (Marks durable visible)) log = prefix_refl log
+log_grows (Some FormatRecord) log = prefix_refl log
 
 -- a front has a front of what is of each site
 pub front_of : (k : SiteId) (xs ys : List Held) → IsPrefix xs ys → IsPrefix (of_site k xs) (of_site k ys)
@@ -90,6 +91,7 @@ got_grows i (Some (Released j n)) got k = omega arith
 got_grows i (Some (SlowBegin n x)) got k = omega arith
 got_grows i (Some (SlowEnd n)) got k = omega arith
 got_grows i (Some (Marks durable visible)) got k = omega arith
+got_grows i (Some FormatRecord) got k = omega arith
 
 -- what is kept by an end, with a commit or without one, and isn't so of what isn't begun, is kept by each record that
 -- begins a new slow commit only
@@ -114,6 +116,7 @@ module _ (P : Slow → Type 0) (unused : ¬ P Unused) (ends : (g : Slow) → P g
   ]
   slow_grows (Some (SlowEnd m)) new n h = kept_if ended ends (nat_eq m n) (K.slow n) h
   slow_grows (Some (Marks durable visible)) new n h = h
+  slow_grows (Some FormatRecord) new n h = h
 
 pub begun_ended : (g : Slow) → begun (ended g) ≡ begun g
 begun_ended Unused = refl
@@ -166,6 +169,7 @@ module _ (catalog : Catalog) (i : SiteId) (K : Knowledge) (j : SiteId) (apart : 
   ]
   part_grows (Some (SlowEnd m)) = not_own m
   part_grows (Some (Marks durable visible)) = some
+  part_grows (Some FormatRecord) = some
 
 module _ (catalog : Catalog) (i : SiteId) (rec : Option Record) (W Then : Stands) (R : IsRecorded catalog i rec W Then)
   where
@@ -333,3 +337,4 @@ module _ (catalog : Catalog) (W Then : Stands) (put then_put : Put) (G : HasGrow
   }
   due_later (SlowEnd n) h = tt
   due_later (Marks durable visible) h = tt
+  due_later FormatRecord h = tt

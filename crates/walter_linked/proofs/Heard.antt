@@ -20,7 +20,7 @@ use Rattle.walter_rules.specs.declared.event.Event.TheVariants.{Given}
 use Rattle.walter_rules.specs.declared.event.Input.TheVariants.{Call, Deliver}
 use Rattle.walter_rules.specs.declared.outcome.Outcome.{Outcome}
 use Rattle.walter_rules.specs.declared.outcome.Outcome.TheVariants.{Taken}
-use Rattle.walter_rules.specs.Allowed.{IsKind, is_refused, starts, does, reads, ends, aborts, conflicts, commits, begins, waits, tells_version, tells_cause, levels_own, is_deciding, is_running, denies, passes, receives, hears_ack, hears_durable, hears_visible, marks_durable, marks_visible, prepares, hears_yes, decides, gives_up, releases, hears_released, sees, stops, is_down, boots}
+use Rattle.walter_rules.specs.Allowed.{IsKind, is_refused, starts, does, reads, ends, aborts, conflicts, commits, begins, waits, tells_version, tells_cause, levels_own, is_deciding, is_running, denies, passes, receives, hears_ack, hears_durable, hears_visible, marks_durable, marks_visible, prepares, hears_yes, decides, gives_up, releases, hears_released, sees, upgrades, stops, is_down, boots}
 use Rattle.walter_rules.specs.Knowledge.{Knowledge}
 use Rattle.walter_rules.specs.Learning.{risen, acknowledged_after, said_visible_after, said_yes_after, said_no_after, heard_of, after, lost}
 use Rattle.walter_rules.specs.Standing.{Standing, goes_down, knows_after}
@@ -70,6 +70,7 @@ kind_taken catalog i S event rec outcome (releases j number n peer some) = peer.
 kind_taken catalog i S event rec outcome (hears_released j number n peer) = peer.apart
 kind_taken catalog i S event rec outcome (sees j tx peer due) = tt
 kind_taken catalog i S event rec outcome (stops up) = tt
+kind_taken catalog i S event rec outcome (upgrades up first) = tt
 kind_taken catalog i S event rec outcome (is_down event_) = tt
 kind_taken catalog i S event rec outcome (boots down) = tt
 

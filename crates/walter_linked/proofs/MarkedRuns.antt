@@ -28,7 +28,7 @@ use Rattle.walter_rules.specs.declared.event.Input.TheVariants.{Call}
 use Rattle.walter_rules.specs.declared.held.Held.{Held}
 use Rattle.walter_rules.specs.declared.outcome.Outcome.{Outcome}
 use Rattle.walter_rules.specs.declared.outcome.Outcome.TheVariants.{Replied}
-use Rattle.walter_rules.specs.Allowed.{IsKind, IsReadCall, of_value, of_counts, of_count, is_refused, starts, does, reads, ends, aborts, conflicts, commits, begins, waits, tells_version, tells_cause, levels_own, is_deciding, is_running, denies, passes, receives, hears_ack, hears_durable, hears_visible, marks_durable, marks_visible, prepares, hears_yes, decides, gives_up, releases, hears_released, sees, stops, is_down, boots}
+use Rattle.walter_rules.specs.Allowed.{IsKind, IsReadCall, of_value, of_counts, of_count, is_refused, starts, does, reads, ends, aborts, conflicts, commits, begins, waits, tells_version, tells_cause, levels_own, is_deciding, is_running, denies, passes, receives, hears_ack, hears_durable, hears_visible, marks_durable, marks_visible, prepares, hears_yes, decides, gives_up, releases, hears_released, sees, upgrades, stops, is_down, boots}
 use Rattle.walter_rules.specs.Calls.{read_updates, seq_of, level_of_own}
 use Rattle.walter_rules.specs.Knowledge.{sites}
 use Rattle.walter_rules.specs.Layouts.{Layout}
@@ -160,6 +160,7 @@ module _ (catalog : Catalog) (homes : (oid : ObjId) → (home catalog oid).0 < c
   kind_level event rec outcome (hears_released j number n peer) = tt
   kind_level event rec outcome (sees j tx peer due) = tt
   kind_level event rec outcome (stops up) = tt
+  kind_level event rec outcome (upgrades up first) = tt
   kind_level event rec outcome (is_down event_) = tt
   kind_level event rec outcome (boots down) = tt
 
@@ -226,6 +227,7 @@ seen_at catalog i S event rec outcome (releases j number n peer some) = tt
 seen_at catalog i S event rec outcome (hears_released j number n peer) = tt
 seen_at catalog i S event rec outcome (sees j tx peer due) = λ e. cc
 seen_at catalog i S event rec outcome (stops up) = tt
+seen_at catalog i S event rec outcome (upgrades up first) = tt
 seen_at catalog i S event rec outcome (is_down event_) = tt
 seen_at catalog i S event rec outcome (boots down) = tt
 

@@ -15,7 +15,7 @@ use Rattle.walter_rules.specs.declared.event.Event.TheVariants.{Given}
 use Rattle.walter_rules.specs.declared.event.Input.TheVariants.{Deliver}
 use Rattle.walter_rules.specs.declared.outcome.Outcome.{Outcome}
 use Rattle.walter_rules.specs.declared.outcome.Outcome.TheVariants.{Taken}
-use Rattle.walter_rules.specs.Allowed.{IsKind, IsTrueOf, is_refused, starts, does, reads, ends, aborts, conflicts, commits, begins, waits, tells_version, tells_cause, levels_own, is_deciding, is_running, denies, passes, receives, hears_ack, hears_durable, hears_visible, marks_durable, marks_visible, prepares, hears_yes, decides, gives_up, releases, hears_released, sees, stops, is_down, boots}
+use Rattle.walter_rules.specs.Allowed.{IsKind, IsTrueOf, is_refused, starts, does, reads, ends, aborts, conflicts, commits, begins, waits, tells_version, tells_cause, levels_own, is_deciding, is_running, denies, passes, receives, hears_ack, hears_durable, hears_visible, marks_durable, marks_visible, prepares, hears_yes, decides, gives_up, releases, hears_released, sees, upgrades, stops, is_down, boots}
 use Rattle.walter_rules.specs.Knowledge.{Knowledge, sites}
 use Rattle.walter_rules.specs.Learning.{heard, after, lost, said_durable_after, durable_after, visible_after, committed_after}
 use Rattle.walter_rules.specs.Marks.{durable_mark, visible_mark}
@@ -129,6 +129,7 @@ module _ (catalog : Catalog) (homes : (oid : ObjId) → (home catalog oid).0 < c
   true_of event rec outcome (sees j tx peer due) puts = durable_in_later catalog W W (grown_none W) j
       ((W i).knows.durable j) (counts W i j + 1) due.durable (M.told i j)
   true_of event rec outcome (stops up) puts = tt
+  true_of event rec outcome (upgrades up first) puts = tt
   true_of event rec outcome (is_down event_) puts = tt
   true_of event rec outcome (boots down) puts = tt
 

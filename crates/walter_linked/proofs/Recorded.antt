@@ -6,7 +6,7 @@ use Rattle.std.proofs.lemmas.List.{length-append}
 use Rattle.std.proofs.lemmas.Option.{same_Some}
 use Rattle.walter_base.specs.declared.catalog.Catalog.{Catalog}
 use Rattle.walter_base.specs.declared.message.Record.{Record}
-use Rattle.walter_base.specs.declared.message.Record.TheVariants.{Boot, Own, Got, Seen, Prepared, Released, SlowBegin, SlowEnd, Marks}
+use Rattle.walter_base.specs.declared.message.Record.TheVariants.{Boot, Own, Got, Seen, Prepared, Released, SlowBegin, SlowEnd, Marks, Format as FormatRecord}
 use Rattle.walter_base.specs.declared.names.ObjId.{ObjId}
 use Rattle.walter_base.specs.declared.names.SiteId.{SiteId}
 use Rattle.walter_base.specs.declared.names.Tid.{Tid}
@@ -197,6 +197,12 @@ module _ (catalog : Catalog) (W Then : Stands) (put : Put) (A : AreAgreed catalo
       (locked_same (home catalog) (owns W) (owns W) (logs W) (logs W) (counts W) (counts W) (slows W) (slows Then)
       (parts W) (parts Then) (λ k. refl) (λ k. refl) (λ p k. refl)
       (same_slows (Marks durable visible) R (λ n. refl)) (same_parts (Marks durable visible) R (λ j n. refl)) A.locked)
+
+  by_format_record : IsRecorded catalog i (Some FormatRecord) W Then → IsCore catalog Then
+  by_format_record R = quiet FormatRecord R refl (λ k. refl) (λ k. refl)
+      (locked_same (home catalog) (owns W) (owns W) (logs W) (logs W) (counts W) (counts W) (slows W) (slows Then)
+      (parts W) (parts Then) (λ k. refl) (λ k. refl) (λ p k. refl)
+      (same_slows FormatRecord R (λ n. refl)) (same_parts FormatRecord R (λ j n. refl)) A.locked)
 
   by_begin_record : (n : ℕ) (x : Tx) → IsRecorded catalog i (Some (SlowBegin n x)) W Then
       → IsDue catalog W put i (SlowBegin n x) → IsCore catalog Then
@@ -418,6 +424,7 @@ module _ (catalog : Catalog) (W Then : Stands) (put : Put) (A : AreAgreed catalo
   recorded_some (SlowBegin n x) R due = by_begin_record n x R due
   recorded_some (SlowEnd n) R due = by_end_record n R
   recorded_some (Marks durable visible) R due = by_marks_record durable visible R
+  recorded_some FormatRecord R due = by_format_record R
 
   -- or none
   pub recorded_core : (rec : Option Record) → IsRecorded catalog i rec W Then → IfSome rec (IsDue catalog W put i)

@@ -1,5 +1,6 @@
 -- Where what stands behind the kind of a packet can't be read, no packet of this kind has it.
 use Rattle.std.proofs.Common.{◌≡◌, ◌≢◌, ℕ, ◌≤◌, List, ◌++◌, arith}
+use Rattle.walter_base.specs.declared.format.Format.TheVariants.{Second}
 use Rattle.walter_base.specs.Sending.{kind_of}
 use Rattle.walter_base.specs.declared.packet.Packet.{Packet}
 use Rattle.walter_base.specs.declared.packet.Packet.TheVariants.{Propagate, Ack, Dsmark, Visible, Prepare, Vote, Release, Released}
@@ -19,7 +20,7 @@ NoFields sites kind left = NoneBegins (IsSuchOfKind (HasPacketSpelling sites) ki
 abbrev NoPacket : ℕ → ℕ → List ℕ → Type 0
 NoPacket sites kind left = (p : Packet) (rest : List ℕ) → IsSuchOfKind (HasPacketSpelling sites) kind_of kind p → left ≢ fields_spelled p ++ rest
 
-pub no_propagate : (sites kind : ℕ) (left : List ℕ) → kind ≡ 1 → NoneBegins (IsNumbered sites) numbered_spelled left → NoFields sites kind left
+pub no_propagate : (sites kind : ℕ) (left : List ℕ) → kind ≡ 1 → NoneBegins (IsNumbered Second sites) (numbered_spelled Second) left → NoFields sites kind left
 no_propagate sites kind left is none = record { none = each }
   where
     each : NoPacket sites kind left

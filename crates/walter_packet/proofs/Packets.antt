@@ -1,8 +1,9 @@
 -- How long the spelling of a packet is, that it is of no other packet, and where none is read.
 use Rattle.std.proofs.Common.{◌≡◌, ℕ, ◌+◌, ◌*◌, ◌≤◌, List, [], ◌++◌, length, refl, sym, ◌∙◌, append-nil, arith}
 use Rattle.std.proofs.lemmas.List.{length-append}
+use Rattle.walter_base.specs.declared.format.Format.TheVariants.{Second}
 use Rattle.walter_base.specs.Sending.{kind_of}
-use Rattle.walter_base.specs.Sizes.{size_of, size_of_packet, CanBeSent}
+use Rattle.walter_base.specs.Sizes.{size_in, size_of_vector, size_of_packet, CanBeSent}
 use Rattle.walter_base.specs.Vectors.{most_sites}
 use Rattle.walter_base.specs.declared.names.ObjId.{ObjId}
 use Rattle.walter_base.specs.declared.names.Tid.{Tid}
@@ -33,20 +34,20 @@ behind k n fields long = omega (arith, length-append (number_spelled 1 k) fields
 of_number : (k n : ℕ) → length (number_spelled 1 k ++ number_spelled 8 n) ≡ 9
 of_number k n = behind k 8 (number_spelled 8 n) (length-number_spelled 8 n)
 
-of_numbered : (seq : ℕ) (tx : Tx) → length tx.start ≤ most_sites → length (number_spelled 8 seq ++ spelling tx) ≡ 8 + size_of tx
-of_numbered seq tx few = omega (arith, length-append (number_spelled 8 seq) (spelling tx), length-number_spelled 8 seq, length-spelling tx few)
+of_numbered : (seq : ℕ) (tx : Tx) → length tx.start ≤ most_sites → length (number_spelled 8 seq ++ spelling Second tx) ≡ 8 + size_in Second tx
+of_numbered seq tx few = omega (arith, length-append (number_spelled 8 seq) (spelling Second tx), length-number_spelled 8 seq, length-spelling Second tx few)
 
 of_prepare : (slow : ℕ) (tid : Tid) (start : List ℕ) (objects : List ObjId) → length start ≤ most_sites
-    → length (number_spelled 8 slow ++ (tid_spelled tid ++ (vector_spelled start ++ objects_spelled objects))) ≡ 87 + 12 * length objects
+    → length (number_spelled 8 slow ++ (tid_spelled tid ++ (vector_spelled Second start ++ objects_spelled objects))) ≡ 23 + size_of_vector Second start + 12 * length objects
 of_prepare slow tid start objects few =
     omega (
       arith,
-      length-append (number_spelled 8 slow) (tid_spelled tid ++ (vector_spelled start ++ objects_spelled objects)),
-      length-append (tid_spelled tid) (vector_spelled start ++ objects_spelled objects),
-      length-append (vector_spelled start) (objects_spelled objects),
+      length-append (number_spelled 8 slow) (tid_spelled tid ++ (vector_spelled Second start ++ objects_spelled objects)),
+      length-append (tid_spelled tid) (vector_spelled Second start ++ objects_spelled objects),
+      length-append (vector_spelled Second start) (objects_spelled objects),
       length-number_spelled 8 slow,
       length-tid_spelled tid,
-      length-vector_spelled start few,
+      length-vector_spelled Second start few,
       length-objects_spelled objects,
     )
 
@@ -60,18 +61,18 @@ size_of_vote slow Later = refl
 
 -- the spelling has the packet's size
 pub length-packet_spelled : (packet : Packet) → CanBeSent packet → length (packet_spelled packet) ≡ size_of_packet packet
-length-packet_spelled (Propagate seq tx) can = omega (arith, behind 1 (8 + size_of tx) (number_spelled 8 seq ++ spelling tx) (of_numbered seq tx can.sites))
+length-packet_spelled (Propagate seq tx) can = omega (arith, behind 1 (8 + size_in Second tx) (number_spelled 8 seq ++ spelling Second tx) (of_numbered seq tx can.sites))
 length-packet_spelled (Ack got) can = of_number 2 got
 length-packet_spelled (Dsmark durable) can = of_number 3 durable
 length-packet_spelled (Visible committed) can = of_number 4 committed
 length-packet_spelled (Prepare slow tid start objects) can =
-    omega (arith, behind 5 (87 + 12 * length objects) (number_spelled 8 slow ++ (tid_spelled tid ++ (vector_spelled start ++ objects_spelled objects))) (of_prepare slow tid start objects can.0))
+    omega (arith, behind 5 (23 + size_of_vector Second start + 12 * length objects) (number_spelled 8 slow ++ (tid_spelled tid ++ (vector_spelled Second start ++ objects_spelled objects))) (of_prepare slow tid start objects can.0))
 length-packet_spelled (Vote slow answer) can = omega (arith, behind 6 (8 + size_of_answer answer) (number_spelled 8 slow ++ answer_spelled answer) (of_vote slow answer), size_of_vote slow answer)
 length-packet_spelled (Release slow) can = of_number 7 slow
 length-packet_spelled (Released slow) can = of_number 8 slow
 
-most_bytes : (packet : Packet) → CanBeSent packet → size_of_packet packet ≤ 60009
-most_bytes (Propagate seq tx) can = omega (arith, can.updates.size)
+most_bytes : (packet : Packet) → CanBeSent packet → size_of_packet packet ≤ 60074
+most_bytes (Propagate seq tx) can = omega (arith, can.updates.size, can.sites)
 most_bytes (Ack got) can = omega arith
 most_bytes (Dsmark durable) can = omega arith
 most_bytes (Visible committed) can = omega arith
@@ -84,7 +85,7 @@ most_bytes (Vote slow (No Dead)) can = omega arith
 most_bytes (Release slow) can = omega arith
 most_bytes (Released slow) can = omega arith
 
-pub at_most : (packet : Packet) → CanBeSent packet → length (packet_spelled packet) ≤ 60009
+pub at_most : (packet : Packet) → CanBeSent packet → length (packet_spelled packet) ≤ 60074
 at_most packet can = omega (arith, length-packet_spelled packet can, most_bytes packet can)
 
 -- ---- kinds
@@ -112,8 +113,8 @@ known_kind (Released slow) = (omega arith, omega arith)
 
 -- ---- what is told of the fields by their ranges
 
-pub spelled_transaction : (sites seq : ℕ) (tx : Tx) → HasPacketSpelling sites (Propagate seq tx) → IsNumbered sites (seq, tx)
-spelled_transaction sites seq tx has = (has.ranges.0, record { sites = has.among; sizes = has.sizes; ranges = has.ranges.1 })
+pub spelled_transaction : (sites seq : ℕ) (tx : Tx) → HasPacketSpelling sites (Propagate seq tx) → IsNumbered Second sites (seq, tx)
+spelled_transaction sites seq tx has = (has.ranges.0, record { fits = omega (arith, has.among, has.sizes.sites); sites = has.among; sizes = has.sizes; ranges = has.ranges.1 })
 
 pub spelled_prepare : (sites slow : ℕ) (tid : Tid) (start : List ℕ) (objects : List ObjId) → HasPacketSpelling sites (Prepare slow tid start objects) → IsPrepare sites (slow, (tid, (start, objects)))
 spelled_prepare sites slow tid start objects has = (has.ranges.0, (has.ranges.1, ((has.among, has.ranges.2), record { listed = has.sizes.1; ranges = has.ranges.3 })))
@@ -121,11 +122,11 @@ spelled_prepare sites slow tid start objects has = (has.ranges.0, (has.ranges.1,
 -- ---- no spelling begins another
 
 pub free_prepares : (sites : ℕ) → IsPrefixFree (IsPrepare sites) prepare_spelled
-free_prepares sites = free_both free_numbers (free_both free_tids (free_both (free_vectors sites) free_objects))
+free_prepares sites = free_both free_numbers (free_both free_tids (free_both (free_vectors Second sites) free_objects))
 
 same_fields : (sites : ℕ) (a b : Packet) (x y : List ℕ) → kind_of a ≡ kind_of b → HasPacketSpelling sites a → HasPacketSpelling sites b → fields_spelled a ++ x ≡ fields_spelled b ++ y → (a ≡ b) × (x ≡ y)
 same_fields sites (Propagate m tx) (Propagate n other) x y kinds has_a has_b e =
-    let same = (free_numbered sites).same (m, tx) (n, other) x y (spelled_transaction sites m tx has_a) (spelled_transaction sites n other has_b) e in
+    let same = (free_numbered Second sites).same (m, tx) (n, other) x y (spelled_transaction sites m tx has_a) (spelled_transaction sites n other has_b) e in
     ((λ i. Propagate (same.0 i).0 (same.0 i).1), same.1)
 same_fields sites (Ack m) (Ack n) x y kinds has_a has_b e = let same = free_numbers.same m n x y has_a.ranges has_b.ranges e in ((λ i. Ack (same.0 i)), same.1)
 same_fields sites (Dsmark m) (Dsmark n) x y kinds has_a has_b e = let same = free_numbers.same m n x y has_a.ranges has_b.ranges e in ((λ i. Dsmark (same.0 i)), same.1)

@@ -1,5 +1,6 @@
 -- The parts of a packet's spelling: the byte of its kind, and what stands behind it (docs/FORMATS.md, "Packet").
 use Rattle.std.specs.Prelude.{◌≡◌, ◌+◌, ◌<◌, ◌^◌, ℕ, List, [], ◌++◌, length, All}
+use Rattle.walter_base.specs.declared.format.Format.TheVariants.{Second}
 use Rattle.walter_base.specs.Sizes.{size_of_conflict}
 use Rattle.walter_base.specs.declared.names.ObjId.{ObjId}
 use Rattle.walter_base.specs.declared.names.Tid.{Tid}
@@ -52,7 +53,7 @@ abbrev pub PrepareFields : Type 0
 PrepareFields = ℕ × (Tid × (List ℕ × List ObjId))
 
 abbrev pub prepare_spelled : PrepareFields → List ℕ
-prepare_spelled p = number_spelled 8 p.0 ++ (tid_spelled p.1.0 ++ (vector_spelled p.1.1.0 ++ objects_spelled p.1.1.1))
+prepare_spelled p = number_spelled 8 p.0 ++ (tid_spelled p.1.0 ++ (vector_spelled Second p.1.1.0 ++ objects_spelled p.1.1.1))
 
 abbrev pub IsPrepare : ℕ → PrepareFields → Type 0
 IsPrepare sites p =
@@ -61,12 +62,12 @@ IsPrepare sites p =
 
 -- what stands behind the kind
 abbrev pub fields_spelled : Packet → List ℕ
-fields_spelled (Propagate seq tx) = number_spelled 8 seq ++ spelling tx
+fields_spelled (Propagate seq tx) = number_spelled 8 seq ++ spelling Second tx
 fields_spelled (Ack got) = number_spelled 8 got
 fields_spelled (Dsmark durable) = number_spelled 8 durable
 fields_spelled (Visible committed) = number_spelled 8 committed
 fields_spelled (Prepare slow tid start objects) =
-    number_spelled 8 slow ++ (tid_spelled tid ++ (vector_spelled start ++ objects_spelled objects))
+    number_spelled 8 slow ++ (tid_spelled tid ++ (vector_spelled Second start ++ objects_spelled objects))
 fields_spelled (Vote slow answer) = number_spelled 8 slow ++ answer_spelled answer
 fields_spelled (Release slow) = number_spelled 8 slow
 fields_spelled (Released slow) = number_spelled 8 slow

@@ -1,5 +1,6 @@
 -- How a packet is spelled, and which packets have a spelling (docs/FORMATS.md, "Packet").
 use Rattle.std.specs.Prelude.{◌≡◌, ◌<◌, ◌^◌, ℕ, List, ◌++◌, length, All}
+use Rattle.walter_base.specs.declared.format.Format.TheVariants.{Second}
 use Rattle.walter_base.specs.Sizes.{CanBeSent}
 use Rattle.walter_base.specs.declared.packet.Answer.{Answer}
 use Rattle.walter_base.specs.declared.packet.Answer.TheVariants.{Yes, No, Later}
@@ -22,13 +23,13 @@ answer_spelled (No conflict) = number_spelled 1 0 ++ conflict_spelled conflict
 answer_spelled Later = number_spelled 1 2
 
 abbrev pub packet_spelled : Packet → List ℕ
-packet_spelled (Propagate seq tx) = number_spelled 1 1 ++ (number_spelled 8 seq ++ spelling tx)
+packet_spelled (Propagate seq tx) = number_spelled 1 1 ++ (number_spelled 8 seq ++ spelling Second tx)
 packet_spelled (Ack got) = number_spelled 1 2 ++ number_spelled 8 got
 packet_spelled (Dsmark durable) = number_spelled 1 3 ++ number_spelled 8 durable
 packet_spelled (Visible committed) = number_spelled 1 4 ++ number_spelled 8 committed
 packet_spelled (Prepare slow tid start objects) =
     number_spelled 1 5
-    ++ (number_spelled 8 slow ++ (tid_spelled tid ++ (vector_spelled start ++ objects_spelled objects)))
+    ++ (number_spelled 8 slow ++ (tid_spelled tid ++ (vector_spelled Second start ++ objects_spelled objects)))
 packet_spelled (Vote slow answer) = number_spelled 1 6 ++ (number_spelled 8 slow ++ answer_spelled answer)
 packet_spelled (Release slow) = number_spelled 1 7 ++ number_spelled 8 slow
 packet_spelled (Released slow) = number_spelled 1 8 ++ number_spelled 8 slow

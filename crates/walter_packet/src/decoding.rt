@@ -10,7 +10,7 @@ ghost use Rattle.walter_txcode.specs.Kinds.{IsSuchOfKind};
 
 use crate::answers::read_vote;
 use std::alloc::Global;
-use walter_base::{Mem, NoMemory, Objects, Packet, Snapshot, Tid, Vts};
+use walter_base::{Format, Mem, NoMemory, Objects, Packet, Snapshot, Tid, Vts};
 use walter_fields::Cursor;
 use walter_names::read_tid;
 use walter_txcode::{DecodeFault, read_numbered, read_objects, read_vector};
@@ -29,7 +29,7 @@ fn read_prepare(
 {
     let slow = cursor.u64()?;
     let tid = read_tid(cursor)?;
-    let start = read_vector(cursor, sites)?;
+    let start = read_vector(cursor, sites, Format::Second)?;
     let objects = read_objects(alloc, cursor)?;
     Ok((slow, (tid, (start, objects))))
 }
@@ -49,7 +49,7 @@ fn read_fields(
 {
     match kind {
         1 => {
-            let (seq, tx) = read_numbered(alloc, cursor, sites)?;
+            let (seq, tx) = read_numbered(alloc, cursor, sites, Format::Second)?;
             Ok(Packet::Propagate(seq, tx))
         }
         2 => {

@@ -5,10 +5,10 @@ ghost use Rattle.walter_packet.specs.Spelling.{packet_spelled, AreInRange};
 
 use crate::answers::{size_of_answer, write_answer};
 use std::alloc::Global;
-use walter_base::{Bytes, Mem, NoMemory, Packet};
+use walter_base::{Bytes, Format, Mem, NoMemory, Packet};
 use walter_fields::Appender;
 use walter_names::write_tid;
-use walter_txcode::{write_numbered, write_objects, write_vector};
+use walter_txcode::{size_in, write_numbered, write_objects, write_vector};
 
 /// How many bytes spell the packet.
 fn size(packet: &Packet) -> usize
@@ -16,8 +16,10 @@ fn size(packet: &Packet) -> usize
     ensures { result ≡ size_of_packet packet.now }
 {
     match packet {
-        Packet::Propagate(_, tx) => 9 + tx.size() as usize,
-        Packet::Prepare(_, _, _, objects) => 88 + 12 * objects.as_slice().len(),
+        Packet::Propagate(_, tx) => 9 + size_in(tx, Format::Second) as usize,
+        Packet::Prepare(_, _, start, objects) => {
+            25 + 8 * start.vector().as_slice().len() + 12 * objects.as_slice().len()
+        }
         Packet::Vote(_, answer) => 9 + size_of_answer(*answer),
         Packet::Ack(_)
         | Packet::Dsmark(_)
@@ -35,11 +37,11 @@ fn write_fields(out: &mut Appender, packet: &Packet)
     ensures ranges { AreInRange packet.now }
 {
     match packet {
-        Packet::Propagate(seq, tx) => write_numbered(out, *seq, tx),
+        Packet::Propagate(seq, tx) => write_numbered(out, *seq, tx, Format::Second),
         Packet::Prepare(slow, tid, start, objects) => {
             out.u64(*slow);
             write_tid(out, *tid);
-            write_vector(out, start.vector());
+            write_vector(out, &start.vector(), Format::Second);
             write_objects(out, objects);
         }
         Packet::Vote(slow, answer) => {

@@ -9,8 +9,8 @@ pub fn one_spelling()
         → packet_spelled a ≡ packet_spelled b → a ≡ b }
 {}
 
-/// How long a spelling is, and that it has at most 60,009 bytes.
+/// How long a spelling is, and that it has at most 60,074 bytes.
 pub fn size_of_spelling()
     ensures size { (packet : Packet) → CanBeSent packet → length (packet_spelled packet) ≡ size_of_packet packet }
-    ensures most { (packet : Packet) → CanBeSent packet → length (packet_spelled packet) ≤ 60009 }
+    ensures most { (packet : Packet) → CanBeSent packet → length (packet_spelled packet) ≤ 60074 }
 {}

@@ -1,7 +1,8 @@
 -- The parts of a record's spelling: the byte of its kind, and what stands behind it (docs/FORMATS.md, "Record").
 use Rattle.std.specs.Prelude.{◌<◌, ◌^◌, ℕ, List, ◌++◌}
+use Rattle.walter_base.specs.declared.format.Format.{Format}
 use Rattle.walter_base.specs.declared.message.Record.{Record}
-use Rattle.walter_base.specs.declared.message.Record.TheVariants.{Boot, Own, Got, Seen, Prepared, Released, SlowBegin, SlowEnd, Marks}
+use Rattle.walter_base.specs.declared.message.Record.TheVariants.{Boot, Own, Got, Seen, Prepared, Released, SlowBegin, SlowEnd, Marks, Format as FormatRecord}
 use Rattle.walter_base.specs.declared.names.ObjId.{ObjId}
 use Rattle.walter_base.specs.declared.names.Tid.{Tid}
 use Rattle.walter_base.specs.declared.names.Version.{Version}
@@ -21,13 +22,14 @@ kind_of (Released site slow) = 6
 kind_of (SlowBegin slow tx) = 7
 kind_of (SlowEnd slow) = 8
 kind_of (Marks durable visible) = 9
+kind_of FormatRecord = 10
 
 -- a commit of a site, and its transaction
-abbrev pub got_spelled : Version × Tx → List ℕ
-got_spelled got = version_spelled got.0 ++ spelling got.1
+abbrev pub got_spelled : Format → Version × Tx → List ℕ
+got_spelled format got = version_spelled got.0 ++ spelling format got.1
 
-abbrev pub IsGot : ℕ → Version × Tx → Type 0
-IsGot sites got = IsVersion got.0 × HasSpelling sites got.1
+abbrev pub IsGot : Format → ℕ → Version × Tx → Type 0
+IsGot format sites got = IsVersion got.0 × HasSpelling format sites got.1
 
 -- a slow commit of a site, its transaction, and its objects
 abbrev pub prepared_spelled : Version × (Tid × List ObjId) → List ℕ
@@ -44,14 +46,15 @@ abbrev pub AreMarks : ℕ × ℕ → Type 0
 AreMarks marks = (marks.0 < 2 ^ 64) × (marks.1 < 2 ^ 64)
 
 -- what stands behind the kind
-abbrev pub fields_spelled : Record → List ℕ
-fields_spelled (Boot epoch) = number_spelled 4 epoch
-fields_spelled (Own seq tx) = number_spelled 8 seq ++ spelling tx
-fields_spelled (Got site seq tx) = version_spelled (as_version site seq) ++ spelling tx
-fields_spelled (Seen site seq) = version_spelled (as_version site seq)
-fields_spelled (Prepared site slow tid objects) =
+abbrev pub fields_spelled : Format → Record → List ℕ
+fields_spelled format (Boot epoch) = number_spelled 4 epoch
+fields_spelled format (Own seq tx) = number_spelled 8 seq ++ spelling format tx
+fields_spelled format (Got site seq tx) = version_spelled (as_version site seq) ++ spelling format tx
+fields_spelled format (Seen site seq) = version_spelled (as_version site seq)
+fields_spelled format (Prepared site slow tid objects) =
     version_spelled (as_version site slow) ++ (tid_spelled tid ++ objects_spelled objects)
-fields_spelled (Released site slow) = version_spelled (as_version site slow)
-fields_spelled (SlowBegin slow tx) = number_spelled 8 slow ++ spelling tx
-fields_spelled (SlowEnd slow) = number_spelled 8 slow
-fields_spelled (Marks durable visible) = number_spelled 8 durable ++ number_spelled 8 visible
+fields_spelled format (Released site slow) = version_spelled (as_version site slow)
+fields_spelled format (SlowBegin slow tx) = number_spelled 8 slow ++ spelling format tx
+fields_spelled format (SlowEnd slow) = number_spelled 8 slow
+fields_spelled format (Marks durable visible) = number_spelled 8 durable ++ number_spelled 8 visible
+fields_spelled format FormatRecord = number_spelled 1 2

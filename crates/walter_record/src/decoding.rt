@@ -1,5 +1,5 @@
 ghost use Rattle.std.specs.Prelude.{◌≡◌, ◌≢◌, ◌≤◌, IfOk, IfErr, IfSome, IfNone};
-ghost use Rattle.walter_base.specs.Vectors.{most_sites};
+ghost use Rattle.walter_base.specs.Sizes.{most_in};
 ghost use Rattle.walter_base.specs.declared.message.Record.{Record};
 ghost use Rattle.walter_fields.specs.Cursors.{Takes};
 ghost use Rattle.walter_record.specs.Fields.{kind_of, fields_spelled, got_spelled, prepared_spelled, marks_spelled, IsGot, IsPrepared, AreMarks};
@@ -8,21 +8,26 @@ ghost use Rattle.walter_txcode.specs.Faults.{IfUnspelled, NoneBegins};
 ghost use Rattle.walter_txcode.specs.Kinds.{IsSuchOfKind};
 
 use std::alloc::Global;
-use walter_base::{Mem, NoMemory, Objects, Record, Tid, Tx, Version};
+use walter_base::{Format, Mem, NoMemory, Objects, Record, Tid, Tx, Version};
 use walter_fields::Cursor;
 use walter_names::{read_tid, read_version};
 use walter_txcode::{DecodeFault, read_numbered, read_objects, read_transaction};
 
 /// A commit of a site, and its transaction.
-fn read_got(alloc: Global, cursor: &mut Cursor, sites: u8) -> Result<(Version, Tx), DecodeFault>
-    requires { sites ≤ most_sites }
-    ensures taken { IfOk result (λ got. Takes cursor.old cursor.new (got_spelled got)) }
-    ensures spelled { IfOk result (IsGot sites) }
+fn read_got(
+    alloc: Global,
+    cursor: &mut Cursor,
+    sites: u8,
+    format: Format,
+) -> Result<(Version, Tx), DecodeFault>
+    requires { sites ≤ most_in format }
+    ensures taken { IfOk result (λ got. Takes cursor.old cursor.new (got_spelled format got)) }
+    ensures spelled { IfOk result (IsGot format sites) }
     ensures fault { IfErr result (λ fault. IfUnspelled fault
-        (NoneBegins (IsGot sites) got_spelled cursor.old.left)) }
+        (NoneBegins (IsGot format sites) (got_spelled format) cursor.old.left)) }
 {
     let version = read_version(cursor)?;
-    let tx = read_transaction(alloc, cursor, sites)?;
+    let tx = read_transaction(alloc, cursor, sites, format)?;
     Ok((version, tx))
 }
 
@@ -60,12 +65,13 @@ fn read_fields(
     cursor: &mut Cursor,
     kind: u8,
     sites: u8,
+    format: Format,
 ) -> Result<Record, DecodeFault>
-    requires { sites ≤ most_sites }
-    ensures taken { IfOk result (λ r. Takes cursor.old cursor.new (fields_spelled r)) }
-    ensures spelled { IfOk result (IsSuchOfKind (HasRecordSpelling sites) kind_of kind) }
+    requires { sites ≤ most_in format }
+    ensures taken { IfOk result (λ r. Takes cursor.old cursor.new (fields_spelled format r)) }
+    ensures spelled { IfOk result (IsSuchOfKind (HasRecordSpelling format sites) kind_of kind) }
     ensures fault { IfErr result (λ fault. IfUnspelled fault
-        (NoneBegins (IsSuchOfKind (HasRecordSpelling sites) kind_of kind) fields_spelled cursor.old.left)) }
+        (NoneBegins (IsSuchOfKind (HasRecordSpelling format sites) kind_of kind) (fields_spelled format) cursor.old.left)) }
 {
     match kind {
         1 => {
@@ -73,11 +79,11 @@ fn read_fields(
             Ok(Record::Boot(epoch))
         }
         2 => {
-            let (seq, tx) = read_numbered(alloc, cursor, sites)?;
+            let (seq, tx) = read_numbered(alloc, cursor, sites, format)?;
             Ok(Record::Own(seq, tx))
         }
         3 => {
-            let (version, tx) = read_got(alloc, cursor, sites)?;
+            let (version, tx) = read_got(alloc, cursor, sites, format)?;
             Ok(Record::Got(version.site, version.seq, tx))
         }
         4 => {
@@ -93,7 +99,7 @@ fn read_fields(
             Ok(Record::Released(slow.site, slow.seq))
         }
         7 => {
-            let (slow, tx) = read_numbered(alloc, cursor, sites)?;
+            let (slow, tx) = read_numbered(alloc, cursor, sites, format)?;
             Ok(Record::SlowBegin(slow, tx))
         }
         8 => {
@@ -104,33 +110,45 @@ fn read_fields(
             let (durable, visible) = read_marks(cursor)?;
             Ok(Record::Marks(durable, visible))
         }
+        10 => {
+            let format = cursor.u8()?;
+            if format != 2 {
+                return Err(DecodeFault::Unspelled);
+            }
+            Ok(Record::Format)
+        }
         _ => Err(DecodeFault::Unspelled),
     }
 }
 
 /// The record with which the bytes that are left begin.
-fn read_record(alloc: Global, cursor: &mut Cursor, sites: u8) -> Result<Record, DecodeFault>
-    requires { sites ≤ most_sites }
-    ensures taken { IfOk result (λ r. Takes cursor.old cursor.new (record_spelled r)) }
-    ensures spelled { IfOk result (HasRecordSpelling sites) }
+fn read_record(
+    alloc: Global,
+    cursor: &mut Cursor,
+    sites: u8,
+    format: Format,
+) -> Result<Record, DecodeFault>
+    requires { sites ≤ most_in format }
+    ensures taken { IfOk result (λ r. Takes cursor.old cursor.new (record_spelled format r)) }
+    ensures spelled { IfOk result (HasRecordSpelling format sites) }
     ensures fault { IfErr result (λ fault. IfUnspelled fault
-        (NoneBegins (HasRecordSpelling sites) record_spelled cursor.old.left)) }
+        (NoneBegins (HasRecordSpelling format sites) (record_spelled format) cursor.old.left)) }
 {
     let kind = cursor.u8()?;
-    let journaled = read_fields(alloc, cursor, kind, sites)?;
+    let journaled = read_fields(alloc, cursor, kind, sites, format)?;
     Ok(journaled)
 }
 
 /// The record among so many sites that the bytes spell, all of them; none where they spell none.
-pub fn decode(alloc: Global, bytes: &[u8], sites: u8) -> Mem<Option<Record>>
-    requires { sites ≤ most_sites }
+pub fn decode(alloc: Global, bytes: &[u8], sites: u8, format: Format) -> Mem<Option<Record>>
+    requires { sites ≤ most_in format }
     ensures some { IfOk result (λ found. IfSome found
-        (λ r. HasRecordSpelling sites r × (bytes.now ≡ record_spelled r))) }
+        (λ r. HasRecordSpelling format sites r × (bytes.now ≡ record_spelled format r))) }
     ensures none { IfOk result (λ found. IfNone found
-        ((r : Record) → HasRecordSpelling sites r → bytes.now ≢ record_spelled r)) }
+        ((r : Record) → HasRecordSpelling format sites r → bytes.now ≢ record_spelled format r)) }
 {
     let mut cursor = Cursor::new(bytes);
-    match read_record(alloc, &mut cursor, sites) {
+    match read_record(alloc, &mut cursor, sites, format) {
         Ok(journaled) => {
             if cursor.is_at_end() {
                 Ok(Some(journaled))

@@ -1,28 +1,29 @@
 ghost use Rattle.std.specs.Prelude.{◌≡◌, ◌+◌, ◌≤◌, ◌++◌, IfOk};
 ghost use Rattle.walter_base.specs.Sizes.{size_of_record, CanBeRecorded};
 ghost use Rattle.walter_record.specs.Fields.{kind_of, fields_spelled};
-ghost use Rattle.walter_record.specs.Spelling.{as_version, record_spelled, AreInRange};
+ghost use Rattle.walter_record.specs.Spelling.{FitsFormat, as_version, record_spelled, AreInRange};
 ghost use Rattle.walter_names.specs.Names.{version_spelled, IsVersion};
 
 use std::alloc::Global;
-use walter_base::{Bytes, Mem, NoMemory, Record, SiteId, Version};
+use walter_base::{Bytes, Format, Mem, NoMemory, Record, SiteId, Version};
 use walter_fields::Appender;
 use walter_names::{write_tid, write_version};
-use walter_txcode::{write_numbered, write_objects};
+use walter_txcode::{size_in, write_numbered, write_objects};
 
 /// How many bytes spell the record.
-fn size(journaled: &Record) -> usize
+fn size(journaled: &Record, format: Format) -> usize
     requires { CanBeRecorded journaled.now }
-    ensures { result ≡ size_of_record journaled.now }
+    ensures { result ≡ size_of_record format journaled.now }
 {
     match journaled {
         Record::Boot(_) => 5,
-        Record::Own(_, tx) | Record::SlowBegin(_, tx) => 9 + tx.size() as usize,
-        Record::Got(_, _, tx) => 10 + tx.size() as usize,
+        Record::Own(_, tx) | Record::SlowBegin(_, tx) => 9 + size_in(tx, format) as usize,
+        Record::Got(_, _, tx) => 10 + size_in(tx, format) as usize,
         Record::Seen(_, _) | Record::Released(_, _) => 10,
         Record::Prepared(_, _, _, objects) => 25 + 12 * objects.as_slice().len(),
         Record::SlowEnd(_) => 9,
         Record::Marks(_, _) => 17,
+        Record::Format => 2,
     }
 }
 
@@ -40,6 +41,7 @@ fn kind(journaled: &Record) -> u8
         Record::SlowBegin(_, _) => 7,
         Record::SlowEnd(_) => 8,
         Record::Marks(_, _) => 9,
+        Record::Format => 10,
     }
 }
 
@@ -54,19 +56,20 @@ fn write_site(out: &mut Appender, site: SiteId, seq: u64)
 }
 
 /// Writes what stands behind the kind.
-fn write_fields(out: &mut Appender, journaled: &Record)
+fn write_fields(out: &mut Appender, journaled: &Record, format: Format)
     requires spelled { CanBeRecorded journaled.now }
-    requires room { size_of_record journaled.now ≤ 1 + out.old.room }
-    ensures bytes { out.new.bytes ≡ out.old.bytes ++ fields_spelled journaled.now }
-    ensures room { out.new.room + size_of_record journaled.now ≡ 1 + out.old.room }
+    requires sites { FitsFormat format journaled.now }
+    requires room { size_of_record format journaled.now ≤ 1 + out.old.room }
+    ensures bytes { out.new.bytes ≡ out.old.bytes ++ fields_spelled format journaled.now }
+    ensures room { out.new.room + size_of_record format journaled.now ≡ 1 + out.old.room }
     ensures ranges { AreInRange journaled.now }
 {
     match journaled {
         Record::Boot(epoch) => out.u32(*epoch),
-        Record::Own(seq, tx) => write_numbered(out, *seq, tx),
+        Record::Own(seq, tx) => write_numbered(out, *seq, tx, format),
         Record::Got(site, seq, tx) => {
             write_site(out, *site, *seq);
-            walter_txcode::append(out, tx);
+            walter_txcode::append(out, tx, format);
         }
         Record::Seen(site, seq) => write_site(out, *site, *seq),
         Record::Prepared(site, slow, tid, objects) => {
@@ -75,37 +78,40 @@ fn write_fields(out: &mut Appender, journaled: &Record)
             write_objects(out, objects);
         }
         Record::Released(site, slow) => write_site(out, *site, *slow),
-        Record::SlowBegin(slow, tx) => write_numbered(out, *slow, tx),
+        Record::SlowBegin(slow, tx) => write_numbered(out, *slow, tx, format),
         Record::SlowEnd(slow) => out.u64(*slow),
         Record::Marks(durable, visible) => {
             out.u64(*durable);
             out.u64(*visible);
         }
+        Record::Format => out.u8(2),
     }
 }
 
 /// Writes the record's spelling behind what was written. It takes no memory.
 #[tactic(auto, using(crate::proofs::Records::record_parts))]
-pub fn append(out: &mut Appender, journaled: &Record)
+pub fn append(out: &mut Appender, journaled: &Record, format: Format)
     requires spelled { CanBeRecorded journaled.now }
-    requires room { size_of_record journaled.now ≤ out.old.room }
-    ensures bytes { out.new.bytes ≡ out.old.bytes ++ record_spelled journaled.now }
-    ensures room { out.new.room + size_of_record journaled.now ≡ out.old.room }
+    requires sites { FitsFormat format journaled.now }
+    requires room { size_of_record format journaled.now ≤ out.old.room }
+    ensures bytes { out.new.bytes ≡ out.old.bytes ++ record_spelled format journaled.now }
+    ensures room { out.new.room + size_of_record format journaled.now ≡ out.old.room }
     ensures ranges { AreInRange journaled.now }
 {
     out.u8(kind(journaled));
-    write_fields(out, journaled);
+    write_fields(out, journaled, format);
 }
 
 /// The one spelling of the record.
-pub fn encode(alloc: Global, journaled: &Record) -> Mem<Bytes>
-    requires { CanBeRecorded journaled.now }
-    ensures bytes { IfOk result (λ bytes. bytes ≡ record_spelled journaled.now) }
+pub fn encode(alloc: Global, journaled: &Record, format: Format) -> Mem<Bytes>
+    requires spelled { CanBeRecorded journaled.now }
+    requires sites { FitsFormat format journaled.now }
+    ensures bytes { IfOk result (λ bytes. bytes ≡ record_spelled format journaled.now) }
     ensures ranges { IfOk result (λ _. AreInRange journaled.now) }
 {
-    let Ok(mut out) = Appender::with_room(alloc, size(journaled)) else {
+    let Ok(mut out) = Appender::with_room(alloc, size(journaled, format)) else {
         return Err(NoMemory);
     };
-    append(&mut out, journaled);
+    append(&mut out, journaled, format);
     Ok(Bytes::from(out.into_bytes()))
 }

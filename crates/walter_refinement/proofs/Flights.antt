@@ -5,7 +5,7 @@ use Rattle.std.proofs.lemmas.List.{append-nil}
 use Rattle.std.proofs.lemmas.Option.{same_Some}
 use Rattle.walter_base.specs.declared.catalog.Catalog.{Catalog}
 use Rattle.walter_base.specs.declared.message.Record.{Record}
-use Rattle.walter_base.specs.declared.message.Record.TheVariants.{Boot, Own, Got, Seen, Prepared, Released, SlowBegin, SlowEnd, Marks}
+use Rattle.walter_base.specs.declared.message.Record.TheVariants.{Boot, Own, Got, Seen, Prepared, Released, SlowBegin, SlowEnd, Marks, Format as FormatRecord}
 use Rattle.walter_base.specs.declared.message.Reply.TheVariants.{Deciding}
 use Rattle.walter_base.specs.declared.message.Request.TheVariants.{Commit as CommitAsked}
 use Rattle.walter_base.specs.declared.names.SiteId.{SiteId}
@@ -210,3 +210,5 @@ module _ (catalog : Catalog) (i : SiteId) (W : Stands) (put : Put) (h : List Ste
   kept_so (SlowEnd n) down flies due = found_still (SlowEnd n) tt tt (same_names (SlowEnd n) refl)
   kept_so (Marks durable visible) down flies due = found_still (Marks durable visible) tt tt
       (same_names (Marks durable visible) refl)
+  kept_so FormatRecord down flies due = found_still FormatRecord tt tt
+      (same_names FormatRecord refl)

@@ -5,7 +5,7 @@ use Rattle.std.proofs.lemmas.Bool.{eqb-true}
 use Rattle.std.proofs.lemmas.Option.{same_Some}
 use Rattle.walter_base.specs.declared.catalog.Catalog.{Catalog}
 use Rattle.walter_base.specs.declared.message.Record.{Record}
-use Rattle.walter_base.specs.declared.message.Record.TheVariants.{Boot, Own, Got, Seen, Prepared, Released, SlowBegin, SlowEnd, Marks}
+use Rattle.walter_base.specs.declared.message.Record.TheVariants.{Boot, Own, Got, Seen, Prepared, Released, SlowBegin, SlowEnd, Marks, Format as FormatRecord}
 use Rattle.walter_base.specs.declared.names.SiteId.{SiteId}
 use Rattle.walter_base.specs.declared.names.Tid.{Tid}
 use Rattle.walter_base.specs.declared.transaction.Tx.{Tx}
@@ -40,6 +40,7 @@ IsStill i (Some (Released j n)) = Unit {0}
 IsStill i (Some (SlowBegin n tx)) = Unit {0}
 IsStill i (Some (SlowEnd n)) = Unit {0}
 IsStill i (Some (Marks durable visible)) = Unit {0}
+IsStill i (Some FormatRecord) = Unit {0}
 
 other_site : (a b : SiteId) → a ≢ b → same_site a b ≡ false
 other_site a b apart = elim (site_cases a b) [ inl same ↦ absurd (apart same.1) | inr other ↦ other.0 ]
@@ -57,6 +58,7 @@ still_log i (Some (Released j n)) log still = refl
 still_log i (Some (SlowBegin n tx)) log still = refl
 still_log i (Some (SlowEnd n)) log still = refl
 still_log i (Some (Marks durable visible)) log still = refl
+still_log i (Some FormatRecord) log still = refl
 
 pub still_committed : (i : SiteId) (rec : Option Record) (committed : SiteId → ℕ) (k : SiteId) → IsStill i rec
     → committed_after i rec committed k ≡ committed k
@@ -70,6 +72,7 @@ still_committed i (Some (Released j n)) committed k still = refl
 still_committed i (Some (SlowBegin n tx)) committed k still = refl
 still_committed i (Some (SlowEnd n)) committed k still = refl
 still_committed i (Some (Marks durable visible)) committed k still = refl
+still_committed i (Some FormatRecord) committed k still = refl
 
 -- a slow commit that ended, with a commit or without one
 pub record IsFinal (g : Slow) : Type 0 where
@@ -97,6 +100,7 @@ BeginsNew K (Some (Prepared j n tid objects)) = Unit {0}
 BeginsNew K (Some (Released j n)) = Unit {0}
 BeginsNew K (Some (SlowEnd n)) = Unit {0}
 BeginsNew K (Some (Marks durable visible)) = Unit {0}
+BeginsNew K (Some FormatRecord) = Unit {0}
 
 -- then what ended stays as it is
 pub final_stays : (catalog : Catalog) (i : SiteId) (K : Knowledge) (rec : Option Record) → BeginsNew K rec → (n : ℕ)
@@ -126,6 +130,7 @@ final_stays catalog i K (Some (SlowEnd m)) new n final =
       | false ↦ refl
     ]
 final_stays catalog i K (Some (Marks durable visible)) new n final = refl
+final_stays catalog i K (Some FormatRecord) new n final = refl
 
 -- what came of an event, in its parts
 abbrev pub came_of : Outcome → Option Record → Option Record → Option Record → List Send → ℕ → Came

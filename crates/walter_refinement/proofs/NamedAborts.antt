@@ -5,7 +5,7 @@ use Rattle.std.proofs.lemmas.List.Elements.{Contains-append_cases}
 use Rattle.std.proofs.lemmas.Option.{same_Some}
 use Rattle.walter_base.specs.declared.catalog.Catalog.{Catalog}
 use Rattle.walter_base.specs.declared.message.Record.{Record}
-use Rattle.walter_base.specs.declared.message.Record.TheVariants.{Boot, Own, Got, Seen, Prepared, Released, SlowBegin, SlowEnd, Marks}
+use Rattle.walter_base.specs.declared.message.Record.TheVariants.{Boot, Own, Got, Seen, Prepared, Released, SlowBegin, SlowEnd, Marks, Format as FormatRecord}
 use Rattle.walter_base.specs.declared.message.Reply.TheVariants.{Aborted}
 use Rattle.walter_base.specs.declared.message.Request.TheVariants.{Commit as CommitAsked, Abort as AbortAsked}
 use Rattle.walter_base.specs.declared.names.ObjId.{ObjId}
@@ -24,10 +24,10 @@ use Rattle.walter_psi.proofs.Lists.{Contains-nil, Contains-one}
 use Rattle.walter_rules.specs.declared.entry.Came.{Came}
 use Rattle.walter_rules.specs.declared.event.Event.{Event}
 use Rattle.walter_rules.specs.declared.event.Event.TheVariants.{Given, Stop, Restart}
-use Rattle.walter_rules.specs.declared.event.Input.TheVariants.{Call, Deliver, Advance, Tick}
+use Rattle.walter_rules.specs.declared.event.Input.TheVariants.{Call, Deliver, Advance, Tick, Upgrade}
 use Rattle.walter_rules.specs.declared.outcome.Outcome.{Outcome}
 use Rattle.walter_rules.specs.declared.outcome.Outcome.TheVariants.{Replied, Failed}
-use Rattle.walter_rules.specs.Allowed.{HasOpen, HasBegun, IsOwnerUnseen, IsMet, of_value, of_counts, of_count, IsKind, is_refused, starts, does, reads, ends, aborts, conflicts, commits, begins, waits, tells_version, tells_cause, levels_own, is_deciding, is_running, denies, passes, receives, hears_ack, hears_durable, hears_visible, marks_durable, marks_visible, prepares, hears_yes, decides, gives_up, releases, hears_released, sees, stops, is_down, boots}
+use Rattle.walter_rules.specs.Allowed.{HasOpen, HasBegun, IsOwnerUnseen, IsMet, of_value, of_counts, of_count, IsKind, is_refused, starts, does, reads, ends, aborts, conflicts, commits, begins, waits, tells_version, tells_cause, levels_own, is_deciding, is_running, denies, passes, receives, hears_ack, hears_durable, hears_visible, marks_durable, marks_visible, prepares, hears_yes, decides, gives_up, releases, hears_released, sees, upgrades, stops, is_down, boots}
 use Rattle.walter_rules.specs.Conflicts.{conflict_at, first_conflict, cause_of}
 use Rattle.walter_rules.specs.Knowledge.{Knowledge, session_of}
 use Rattle.walter_rules.specs.Layouts.{Layout}
@@ -101,6 +101,7 @@ kind_aborts catalog i S event wrote outcome cause (releases j number n peer part
 kind_aborts catalog i S event wrote outcome cause (hears_released j number n peer) e = absurd cc
 kind_aborts catalog i S event wrote outcome cause (sees j tx peer due_there) e = absurd cc
 kind_aborts catalog i S event wrote outcome cause (stops up) e = absurd cc
+kind_aborts catalog i S event wrote outcome cause (upgrades up first) e = absurd cc
 kind_aborts catalog i S event wrote outcome cause (is_down same) e = absurd cc
 kind_aborts catalog i S event wrote outcome cause (boots down) e = absurd cc
 
@@ -115,9 +116,11 @@ no_failure (Given (Call client call)) (Prepared j n tid objects) cause e = cc
 no_failure (Given (Call client call)) (Released j n) cause e = cc
 no_failure (Given (Call client call)) (SlowEnd n) cause e = cc
 no_failure (Given (Call client call)) (Marks durable visible) cause e = cc
+no_failure (Given (Call client call)) FormatRecord cause e = cc
 no_failure (Given (Deliver from number packet)) rec cause e = cc
 no_failure (Given (Advance from)) rec cause e = cc
 no_failure (Given Tick) rec cause e = cc
+no_failure (Given Upgrade) rec cause e = cc
 no_failure Stop rec cause e = cc
 no_failure Restart rec cause e = cc
 
@@ -126,6 +129,7 @@ no_want (Given (Call client call)) cause e = cc
 no_want (Given (Deliver from number packet)) cause e = cc
 no_want (Given (Advance from)) cause e = cc
 no_want (Given Tick) cause e = cc
+no_want (Given Upgrade) cause e = cc
 no_want Stop cause e = cc
 no_want Restart cause e = cc
 
@@ -134,6 +138,7 @@ no_fullness (Given (Call client call)) need left cause e = cc
 no_fullness (Given (Deliver from number packet)) need left cause e = cc
 no_fullness (Given (Advance from)) need left cause e = cc
 no_fullness (Given Tick) need left cause e = cc
+no_fullness (Given Upgrade) need left cause e = cc
 no_fullness Stop need left cause e = cc
 no_fullness Restart need left cause e = cc
 

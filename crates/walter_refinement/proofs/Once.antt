@@ -6,7 +6,7 @@ use Rattle.std.proofs.lemmas.List.{append-nil, append_assoc}
 use Rattle.std.proofs.lemmas.Option.{same_Some}
 use Rattle.walter_base.specs.declared.catalog.Catalog.{Catalog}
 use Rattle.walter_base.specs.declared.message.Record.{Record}
-use Rattle.walter_base.specs.declared.message.Record.TheVariants.{Boot, Own, Got, Seen, Prepared, Released, SlowBegin, SlowEnd, Marks}
+use Rattle.walter_base.specs.declared.message.Record.TheVariants.{Boot, Own, Got, Seen, Prepared, Released, SlowBegin, SlowEnd, Marks, Format as FormatRecord}
 use Rattle.walter_base.specs.declared.names.ObjId.{ObjId}
 use Rattle.walter_base.specs.declared.names.SiteId.{SiteId}
 use Rattle.walter_base.specs.declared.names.Tid.{Tid}
@@ -42,6 +42,7 @@ own_in (Released j n) = []
 own_in (SlowBegin n tx) = []
 own_in (SlowEnd n) = []
 own_in (Marks durable visible) = []
+own_in FormatRecord = []
 
 -- those that records tell, in order
 abbrev owned_in : List Record → List Held
@@ -80,6 +81,7 @@ at_rank (r ∷ rs) (suc place) seq tx here = behind r (at_rank rs place seq tx h
     behind (SlowBegin m y) is = ap (λ n. slice_get (owned_in rs) n) (omega arith) ∙ is
     behind (SlowEnd m) is = ap (λ n. slice_get (owned_in rs) n) (omega arith) ∙ is
     behind (Marks durable visible) is = ap (λ n. slice_get (owned_in rs) n) (omega arith) ∙ is
+    behind FormatRecord is = ap (λ n. slice_get (owned_in rs) n) (omega arith) ∙ is
 
 -- two own commits of one rank are one
 one_rank : (rs : List Record) (place other seq number : ℕ) (tx same : Tx) → slice_get rs place ≡ Some (Own seq tx)
@@ -108,6 +110,7 @@ IsOfSite i (Released j n) = Unit {0}
 IsOfSite i (SlowBegin n tx) = Unit {0}
 IsOfSite i (SlowEnd n) = Unit {0}
 IsOfSite i (Marks durable visible) = Unit {0}
+IsOfSite i FormatRecord = Unit {0}
 
 -- then the log has of the site what the records tell
 log_more : (i : SiteId) (log : List Held) (r : Record) → IsOfSite i r
@@ -124,6 +127,7 @@ log_more i log (Released j n) of = sym (append-nil (of_site i log))
 log_more i log (SlowBegin n tx) of = sym (append-nil (of_site i log))
 log_more i log (SlowEnd n) of = sym (append-nil (of_site i log))
 log_more i log (Marks durable visible) of = sym (append-nil (of_site i log))
+log_more i log FormatRecord of = sym (append-nil (of_site i log))
 
 due_of_site : (catalog : Catalog) (W : Stands) (put : Put) (i : SiteId) → AreAgreed catalog W put → (r : Record)
     → IsDue catalog W put i r → IsOfSite i r
@@ -138,6 +142,7 @@ due_of_site catalog W put i G (Released j n) due = tt
 due_of_site catalog W put i G (SlowBegin n tx) due = tt
 due_of_site catalog W put i G (SlowEnd n) due = tt
 due_of_site catalog W put i G (Marks durable visible) due = tt
+due_of_site catalog W put i G FormatRecord due = tt
 
 -- the records and the log go together by a record, or by none
 tells_more : (i : SiteId) (records : List Record) (log : List Held) (rec : Option Record)

@@ -12,7 +12,7 @@ use Rattle.walter_rules.specs.declared.event.Event.{Event}
 use Rattle.walter_rules.specs.declared.event.Event.TheVariants.{Restart}
 use Rattle.walter_rules.specs.declared.outcome.Outcome.{Outcome}
 use Rattle.walter_rules.specs.declared.outcome.Outcome.TheVariants.{Failed}
-use Rattle.walter_rules.specs.Allowed.{IsKind, is_refused, starts, does, reads, ends, aborts, conflicts, commits, begins, waits, tells_version, tells_cause, levels_own, is_deciding, is_running, denies, passes, receives, hears_ack, hears_durable, hears_visible, marks_durable, marks_visible, prepares, hears_yes, decides, gives_up, releases, hears_released, sees, stops, is_down, boots}
+use Rattle.walter_rules.specs.Allowed.{IsKind, is_refused, starts, does, reads, ends, aborts, conflicts, commits, begins, waits, tells_version, tells_cause, levels_own, is_deciding, is_running, denies, passes, receives, hears_ack, hears_durable, hears_visible, marks_durable, marks_visible, prepares, hears_yes, decides, gives_up, releases, hears_released, sees, upgrades, stops, is_down, boots}
 use Rattle.walter_rules.specs.Layouts.{Layout}
 use Rattle.walter_rules.specs.Merges.{Named}
 use Rattle.walter_rules.specs.Sessions.{Session}
@@ -124,6 +124,7 @@ restart_still catalog i S event wrote outcome e (releases j number n peer part) 
 restart_still catalog i S event wrote outcome e (hears_released j number n peer) = tt
 restart_still catalog i S event wrote outcome e (sees j tx peer due_there) = absurd (cc)
 restart_still catalog i S event wrote outcome e (stops up) = tt
+restart_still catalog i S event wrote outcome e (upgrades up first) = tt
 restart_still catalog i S event wrote outcome e (is_down same) = tt
 restart_still catalog i S event wrote outcome e (boots down) = tt
 

@@ -4,7 +4,7 @@ use Rattle.std.specs.Prelude.{Option, IfSome, Ok}
 use Rattle.walter_base.specs.declared.catalog.Catalog.{Catalog}
 use Rattle.walter_base.specs.declared.message.Level.TheVariants.{Running, Deciding as BeingDecided}
 use Rattle.walter_base.specs.declared.message.Record.{Record}
-use Rattle.walter_base.specs.declared.message.Record.TheVariants.{Boot, Own, Got, Seen, Prepared, Released, SlowEnd, Marks}
+use Rattle.walter_base.specs.declared.message.Record.TheVariants.{Boot, Own, Got, Seen, Prepared, Released, SlowEnd, Marks, Format as FormatRecord}
 use Rattle.walter_base.specs.declared.message.Refusal.TheVariants.{Memory as NoMemory, JournalFull}
 use Rattle.walter_base.specs.declared.message.Reply.TheVariants.{Unsure}
 use Rattle.walter_base.specs.declared.message.Request.TheVariants.{Start as StartAsked, Commit as CommitAsked, Abort as AbortAsked}
@@ -16,10 +16,10 @@ use Rattle.walter_base.specs.declared.transaction.Tx.{Tx}
 use Rattle.walter_psi.specs.declared.step.Step.{Step}
 use Rattle.walter_rules.specs.declared.event.Event.{Event}
 use Rattle.walter_rules.specs.declared.event.Event.TheVariants.{Given, Stop, Restart}
-use Rattle.walter_rules.specs.declared.event.Input.TheVariants.{Call, Deliver, Advance, Tick}
+use Rattle.walter_rules.specs.declared.event.Input.TheVariants.{Call, Deliver, Advance, Tick, Upgrade}
 use Rattle.walter_rules.specs.declared.outcome.Outcome.{Outcome}
 use Rattle.walter_rules.specs.declared.outcome.Outcome.TheVariants.{Replied, Failed, Full, Memory}
-use Rattle.walter_rules.specs.Allowed.{IsKind, is_refused, starts, does, reads, ends, aborts, conflicts, commits, begins, waits, tells_version, tells_cause, levels_own, is_deciding, is_running, denies, passes, receives, hears_ack, hears_durable, hears_visible, marks_durable, marks_visible, prepares, hears_yes, decides, gives_up, releases, hears_released, sees, stops, is_down, boots}
+use Rattle.walter_rules.specs.Allowed.{IsKind, is_refused, starts, does, reads, ends, aborts, conflicts, commits, begins, waits, tells_version, tells_cause, levels_own, is_deciding, is_running, denies, passes, receives, hears_ack, hears_durable, hears_visible, marks_durable, marks_visible, prepares, hears_yes, decides, gives_up, releases, hears_released, sees, upgrades, stops, is_down, boots}
 use Rattle.walter_rules.specs.Sending.{Send}
 use Rattle.walter_rules.specs.Calls.{next_seq}
 use Rattle.walter_rules.specs.Marks.{durable_mark, visible_mark}
@@ -120,6 +120,8 @@ module _ (catalog : Catalog) (i : SiteId) (W : Stands) (put : Put) (h : List Ste
   kind_keeps event wrote outcome (sees j tx peer due_there) due numbered =
       seen_so catalog i W put h (alone i) G sp kept sends dropped j _ due
   kind_keeps event wrote outcome (stops up) due numbered = stopped catalog i W h sp kept sends dropped
+  kind_keeps event wrote outcome (upgrades up first) due numbered =
+      taken catalog i W h sp kept sends dropped Upgrade (Some FormatRecord) tt tt refl
   kind_keeps event wrote outcome (is_down same) due numbered = was_down catalog i W h sp kept sends dropped event
   kind_keeps event wrote outcome (boots down) due numbered = booted catalog i W h sp kept sends dropped down
 
@@ -186,6 +188,7 @@ module _ (catalog : Catalog) (i : SiteId) (W : Stands) (put : Put) (h : List Ste
   kind_flies event wrote outcome (sees j tx peer due_there) due =
       falls_with event (Seen j ((W i).knows.committed j + 1)) refl refl
   kind_flies event wrote outcome (stops up) due = tt
+  kind_flies event wrote outcome (upgrades up first) due = falls_with event FormatRecord refl refl
   kind_flies event wrote outcome (is_down same) due = tt
   kind_flies event wrote outcome (boots down) due = falls_with event (Boot ((W i).knows.epoch + 1)) refl refl
 
@@ -202,6 +205,8 @@ module _ (catalog : Catalog) (i : SiteId) (W : Stands) (put : Put) (h : List Ste
       (λ c s vector has. has)
   wants_keep (Given Tick) = stays catalog i W h sp (Given Tick) Memory kept sends dropped None tt tt tt refl refl refl
       (λ n. refl) (λ c s vector has. has)
+  wants_keep (Given Upgrade) = stays catalog i W h sp (Given Upgrade) Memory kept sends dropped None tt tt tt refl refl refl
+      (λ n. refl) (λ c s vector has. has)
   wants_keep Stop = stays catalog i W h sp Stop Memory kept sends dropped None tt tt tt refl refl refl (λ n. refl)
       (λ c s vector has. has)
   wants_keep Restart = stays catalog i W h sp Restart Memory kept sends dropped None tt tt tt refl refl refl
@@ -217,6 +222,9 @@ module _ (catalog : Catalog) (i : SiteId) (W : Stands) (put : Put) (h : List Ste
       (Full need left) kept sends dropped None tt tt tt refl refl refl (λ n. refl) (λ c s vector has. has)
   full_keeps (Given Tick) need left =
       stays catalog i W h sp (Given Tick) (Full need left) kept sends dropped None tt tt tt refl refl refl (λ n. refl)
+      (λ c s vector has. has)
+  full_keeps (Given Upgrade) need left =
+      stays catalog i W h sp (Given Upgrade) (Full need left) kept sends dropped None tt tt tt refl refl refl (λ n. refl)
       (λ c s vector has. has)
   full_keeps Stop need left =
       stays catalog i W h sp Stop (Full need left) kept sends dropped None tt tt tt refl refl refl (λ n. refl)

@@ -2,12 +2,12 @@
 use Rattle.std.proofs.Common.{◌≡◌, [], refl, Some, None}
 use Rattle.std.specs.Prelude.{Option}
 use Rattle.walter_base.specs.declared.message.Record.{Record}
-use Rattle.walter_base.specs.declared.message.Record.TheVariants.{Boot, Own, Got, Seen, Prepared, Released, SlowBegin, SlowEnd, Marks}
+use Rattle.walter_base.specs.declared.message.Record.TheVariants.{Boot, Own, Got, Seen, Prepared, Released, SlowBegin, SlowEnd, Marks, Format as FormatRecord}
 use Rattle.walter_base.specs.declared.message.Reply.TheVariants.{Started, Value, Done, Set, Count, Committed, Aborted, Deciding, Level, Ended, Refused, Unsure}
 use Rattle.walter_base.specs.declared.names.SiteId.{SiteId}
 use Rattle.walter_rules.specs.declared.event.Event.{Event}
 use Rattle.walter_rules.specs.declared.event.Event.TheVariants.{Given, Stop, Restart}
-use Rattle.walter_rules.specs.declared.event.Input.TheVariants.{Call, Deliver, Advance, Tick}
+use Rattle.walter_rules.specs.declared.event.Input.TheVariants.{Call, Deliver, Advance, Tick, Upgrade}
 use Rattle.walter_rules.specs.declared.outcome.Outcome.{Outcome}
 use Rattle.walter_rules.specs.declared.outcome.Outcome.TheVariants.{Replied, Taken, Passed, Failed, Full, Memory, Down, Refused as RefusedThere}
 use Rattle.walter_rules.specs.Sessions.{Session}
@@ -53,6 +53,7 @@ mute_spells i S RefusedThere (Given (Call client call)) mute = refl
 mute_spells i S outcome (Given (Deliver from number packet)) mute = refl
 mute_spells i S outcome (Given (Advance from)) mute = refl
 mute_spells i S outcome (Given Tick) mute = refl
+mute_spells i S outcome (Given Upgrade) mute = refl
 mute_spells i S outcome Stop mute = refl
 mute_spells i S outcome Restart mute = refl
 
@@ -68,6 +69,7 @@ still_spells W i (Some (Released j n)) still = refl
 still_spells W i (Some (SlowBegin n tx)) still = refl
 still_spells W i (Some (SlowEnd n)) still = refl
 still_spells W i (Some (Marks durable visible)) still = refl
+still_spells W i (Some FormatRecord) still = refl
 
 -- where no record comes to be in flight, what is in flight is gone or was there
 pub flight_fewer : (wrote : Option Record) (outcome : Outcome) (old : Option Record) (s : Session)

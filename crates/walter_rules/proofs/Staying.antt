@@ -2,6 +2,7 @@
 -- all that is to be put out can be, a restart changes no debt, and each record raises the epoch by one at most.
 use Rattle.std.proofs.Common.{◌≡◌, ℕ, ◌+◌, ◌<◌, ◌≤◌, true, false, List, [], ◌∷◌, length, Option, Some, None, Result, refl, arith}
 use Rattle.walter_base.specs.declared.catalog.Catalog.{Catalog}
+use Rattle.walter_base.specs.declared.format.Format.{Format}
 use Rattle.walter_base.specs.declared.message.BadFrame.{BadFrame}
 use Rattle.walter_base.specs.declared.message.Record.{Record}
 use Rattle.walter_base.specs.declared.message.Record.TheVariants.{Boot, Own, SlowBegin}
@@ -12,10 +13,10 @@ use Rattle.walter_base.specs.declared.update.Update.{Update}
 use Rattle.walter_rules.specs.declared.event.Event.{Event}
 use Rattle.walter_rules.specs.declared.event.Event.TheVariants.{Given, Stop, Restart}
 use Rattle.walter_rules.specs.declared.event.Input.{Input}
-use Rattle.walter_rules.specs.declared.event.Input.TheVariants.{Call, Deliver, Advance, Tick}
+use Rattle.walter_rules.specs.declared.event.Input.TheVariants.{Call, Deliver, Advance, Tick, Upgrade}
 use Rattle.walter_rules.specs.declared.outcome.Outcome.{Outcome}
 use Rattle.walter_rules.specs.declared.outcome.Outcome.TheVariants.{Replied, Passed, Down}
-use Rattle.walter_rules.specs.Allowed.{IsKind, is_refused, starts, does, reads, ends, aborts, conflicts, commits, begins, waits, tells_version, tells_cause, levels_own, is_deciding, is_running, denies, passes, receives, hears_ack, hears_durable, hears_visible, marks_durable, marks_visible, prepares, hears_yes, decides, gives_up, releases, hears_released, sees, stops, is_down, boots, IsReadCall, of_value, of_counts, of_count}
+use Rattle.walter_rules.specs.Allowed.{IsKind, is_refused, starts, does, reads, ends, aborts, conflicts, commits, begins, waits, tells_version, tells_cause, levels_own, is_deciding, is_running, denies, passes, receives, hears_ack, hears_durable, hears_visible, marks_durable, marks_visible, prepares, hears_yes, decides, gives_up, releases, hears_released, sees, upgrades, stops, is_down, boots, IsReadCall, of_value, of_counts, of_count}
 use Rattle.walter_rules.specs.Knowledge.{Knowledge}
 use Rattle.walter_rules.specs.Learning.{recorded}
 use Rattle.walter_rules.specs.Records.{CanAllFollow, replayed}
@@ -80,15 +81,17 @@ module _ (catalog : Catalog) (i : SiteId) (S : Standing) where
   kind_stays event wrote outcome is (releases j number n from alive) = refl
   kind_stays event wrote outcome is (hears_released j number n from) = refl
   kind_stays event wrote outcome is (sees j tx from due) = refl
+  kind_stays event wrote outcome is (upgrades up first) = refl
   kind_stays event wrote outcome is (stops up) = absurd is
   kind_stays event wrote outcome is (is_down e) = is_down_by e
   kind_stays event wrote outcome is (boots down) = absurd is
 
   -- what the rule says of an input doesn't bring the site down
-  pub rule_stays : (input : Input) → goes_down (Given input) (rule catalog i S (Given input)).outcome ≡ false
-  rule_stays input =
-      kind_stays (Given input) (rule catalog i S (Given input)).wrote (rule catalog i S (Given input)).outcome tt
-      (rule_allowed catalog i S (Given input)).0.kind
+  pub rule_stays : (header : Format) (input : Input)
+      → goes_down (Given input) (rule header catalog i S (Given input)).outcome ≡ false
+  rule_stays header input =
+      kind_stays (Given input) (rule header catalog i S (Given input)).wrote
+      (rule header catalog i S (Given input)).outcome tt (rule_allowed header catalog i S (Given input)).0.kind
 
 -- where a record meets a fault, the site goes down
 pub fault_falls : (event : Event) (rec : Record) → goes_down event (failure event rec) ≡ true
@@ -98,6 +101,7 @@ fault_falls (Given (Call client call)) rec = refl
 fault_falls (Given (Deliver from number packet)) rec = refl
 fault_falls (Given (Advance from)) rec = refl
 fault_falls (Given Tick) rec = refl
+fault_falls (Given Upgrade) rec = refl
 fault_falls Stop rec = refl
 fault_falls Restart rec = refl
 
@@ -107,6 +111,7 @@ later_next (Given (Call client call)) last stamp is = omega (arith, is)
 later_next (Given (Deliver from number packet)) last stamp is = is
 later_next (Given (Advance from)) last stamp is = omega (arith, is)
 later_next (Given Tick) last stamp is = omega (arith, is)
+later_next (Given Upgrade) last stamp is = omega (arith, is)
 later_next Stop last stamp is = omega (arith, is)
 later_next Restart last stamp is = omega (arith, is)
 

@@ -2,10 +2,11 @@
 -- then. Proofs over runs go by these cases.
 use Rattle.std.specs.Prelude.{◌≡◌, ◌≢◌, ℕ, ◌+◌, ◌<◌, ◌≤◌, true, false, List, [], ◌∷◌, Option, Some, None, Contains, IsTrue, Result, Ok}
 use Rattle.walter_base.specs.declared.catalog.Catalog.{Catalog}
+use Rattle.walter_base.specs.declared.format.Format.TheVariants.{First}
 use Rattle.walter_base.specs.declared.message.BadFrame.{BadFrame}
 use Rattle.walter_base.specs.declared.message.Level.TheVariants.{NotCommitted, Running, Deciding as BeingDecided}
 use Rattle.walter_base.specs.declared.message.Record.{Record}
-use Rattle.walter_base.specs.declared.message.Record.TheVariants.{Boot, Own, Got, Seen, Prepared, Released, SlowBegin, SlowEnd, Marks}
+use Rattle.walter_base.specs.declared.message.Record.TheVariants.{Boot, Own, Got, Seen, Prepared, Released, SlowBegin, SlowEnd, Marks, Format as FormatRecord}
 use Rattle.walter_base.specs.declared.message.Refusal.{Refusal}
 use Rattle.walter_base.specs.declared.message.Reply.{Reply}
 use Rattle.walter_base.specs.declared.message.Reply.TheVariants.{Started, Value, Done, Set, Count, Committed, Aborted, Deciding, Level, Ended, Refused}
@@ -27,7 +28,7 @@ use Rattle.walter_base.specs.Values.{value_of, count_of, counts_of, write_set}
 use Rattle.walter_base.specs.Vectors.{entry_at}
 use Rattle.walter_rules.specs.declared.event.Event.{Event}
 use Rattle.walter_rules.specs.declared.event.Event.TheVariants.{Given, Stop, Restart}
-use Rattle.walter_rules.specs.declared.event.Input.TheVariants.{Call, Deliver, Advance}
+use Rattle.walter_rules.specs.declared.event.Input.TheVariants.{Call, Deliver, Advance, Upgrade}
 use Rattle.walter_rules.specs.declared.outcome.Outcome.{Outcome}
 use Rattle.walter_rules.specs.declared.outcome.Outcome.TheVariants.{Replied, Taken, Passed, Down}
 use Rattle.walter_rules.specs.Calls.{Expected, next_tid, next_seq, next_slow, own_version, read_updates, seq_of, level_of_own, is_issued, is_undecided, is_open}
@@ -216,6 +217,8 @@ pub data IsKind (catalog : Catalog) (i : SiteId) (S : Standing) : Event → Opti
       → IsKind catalog i S (Given (Deliver j number (ReleasedSaid n))) None Taken
   sees : (j : SiteId) (tx : Tx) → IsFromPeer catalog i S j → IsDueThere S.knows j tx
       → IsKind catalog i S (Given (Advance j)) (Some (Seen j (S.knows.committed j + 1))) Taken
+  upgrades : S.up ≡ true → S.knows.format ≡ First
+      → IsKind catalog i S (Given Upgrade) (Some FormatRecord) Taken
   stops : S.up ≡ true → IsKind catalog i S Stop None Taken
   is_down : (event : Event) → IsKind catalog i S event None Down
   boots : S.up ≡ false → IsKind catalog i S Restart (Some (Boot (S.knows.epoch + 1))) Taken

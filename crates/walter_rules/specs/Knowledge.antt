@@ -4,6 +4,8 @@ use Rattle.std.specs.FinMap.{get}
 use Rattle.std.specs.List.{range_with_len}
 use Rattle.std.specs.Option.{option_map_or}
 use Rattle.walter_base.specs.declared.catalog.Catalog.{Catalog}
+use Rattle.walter_base.specs.declared.format.Format.{Format}
+use Rattle.walter_base.specs.declared.format.Format.TheVariants.{First}
 use Rattle.walter_base.specs.declared.names.ObjId.{ObjId}
 use Rattle.walter_base.specs.declared.names.SiteId.{SiteId}
 use Rattle.walter_base.specs.declared.names.Tid.{Tid}
@@ -34,6 +36,8 @@ pub record Knowledge : Type 0 where
   -- the marks that were journaled last
   pub durable_floor : ℕ
   pub visible_floor : ℕ
+  -- the format that the records tell: the second behind the record that says so
+  pub format : Format
   -- what each peer has said since the last boot: how many own commits it has, and how many are committed there; and how
   -- many of its own are durable
   pub acknowledged : SiteId → ℕ
@@ -59,6 +63,7 @@ fresh = record {
   owner = λ oid. None;
   durable_floor = 0;
   visible_floor = 0;
+  format = First;
   acknowledged = λ k. 0;
   visible = λ k. 0;
   durable = λ k. 0;

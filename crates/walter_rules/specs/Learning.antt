@@ -4,8 +4,10 @@ use Rattle.std.specs.Prelude.{ℕ, zero, suc, ◌+◌, nat_eq, max, Bool, List, 
 use Rattle.std.specs.List.{list_any}
 use Rattle.walter_base.specs.declared.catalog.Catalog.{Catalog}
 use Rattle.walter_base.specs.declared.message.BadFrame.{BadFrame}
+use Rattle.walter_base.specs.declared.format.Format.{Format}
+use Rattle.walter_base.specs.declared.format.Format.TheVariants.{Second}
 use Rattle.walter_base.specs.declared.message.Record.{Record}
-use Rattle.walter_base.specs.declared.message.Record.TheVariants.{Boot, Own, Got, Seen, Prepared, Released, SlowBegin, SlowEnd, Marks}
+use Rattle.walter_base.specs.declared.message.Record.TheVariants.{Boot, Own, Got, Seen, Prepared, Released, SlowBegin, SlowEnd, Marks, Format as FormatRecord}
 use Rattle.walter_base.specs.declared.message.Reply.TheVariants.{Started, Done, Committed, Aborted, Deciding, Ended, Unsure}
 use Rattle.walter_base.specs.declared.message.Request.{Request}
 use Rattle.walter_base.specs.declared.message.Request.TheVariants.{Write, SetAdd, SetDel}
@@ -105,6 +107,7 @@ part_after catalog i K (Some (Own seq tx)) j n = part_unlocked i tx.slow K.part 
 part_after catalog i K (Some (Boot epoch)) j n = if same_site i j then unlocked (K.part j n) else K.part j n
 part_after catalog i K (Some (Got k seq tx)) j n = K.part j n
 part_after catalog i K (Some (Marks durable visible)) j n = K.part j n
+part_after catalog i K (Some FormatRecord) j n = K.part j n
 
 abbrev pub owned : Tid → List ObjId → (ObjId → Option Tid) → ObjId → Option Tid
 owned tid objects owner oid = if has_object oid objects then Some tid else owner oid
@@ -132,6 +135,7 @@ owner_after catalog i K (Some (Own seq tx)) oid = freed (K.part i tx.slow) K.own
 owner_after catalog i K (Some (Boot epoch)) oid = if is_locked_here i K oid then None else K.owner oid
 owner_after catalog i K (Some (Got k seq tx)) oid = K.owner oid
 owner_after catalog i K (Some (Marks durable visible)) oid = K.owner oid
+owner_after catalog i K (Some FormatRecord) oid = K.owner oid
 
 abbrev pub durable_after : Option Record → ℕ → ℕ
 durable_after None floor = floor
@@ -142,6 +146,15 @@ abbrev pub visible_after : Option Record → ℕ → ℕ
 visible_after None floor = floor
 visible_after (Some (Marks durable visible)) floor = visible
 visible_after (Some rec) floor = floor
+
+-- the format in force behind a record
+abbrev pub format_behind : Record → Format → Format
+format_behind FormatRecord format = Second
+format_behind rec format = format
+
+abbrev pub format_after : Option Record → Format → Format
+format_after None format = format
+format_after (Some rec) format = format_behind rec format
 
 -- what is known after a record
 abbrev pub recorded : Catalog → SiteId → Option Record → Knowledge → Knowledge
@@ -156,6 +169,7 @@ recorded catalog i rec K = record K {
   owner = owner_after catalog i K rec;
   durable_floor = durable_after rec K.durable_floor;
   visible_floor = visible_after rec K.visible_floor;
+  format = format_after rec K.format;
 }
 
 -- after a reply

@@ -1,8 +1,9 @@
 -- Which records can stand in the journal of a site, each by what those before it tell (docs/FORMATS.md, "Record").
 use Rattle.std.specs.Prelude.{◌≡◌, ◌≢◌, ◌+◌, ◌<◌, ◌≤◌, ℕ, List, [], ◌∷◌, Some, None, All, IsTrue, length}
 use Rattle.walter_base.specs.declared.catalog.Catalog.{Catalog}
+use Rattle.walter_base.specs.declared.format.Format.TheVariants.{First}
 use Rattle.walter_base.specs.declared.message.Record.{Record}
-use Rattle.walter_base.specs.declared.message.Record.TheVariants.{Boot, Own, Got, Seen, Prepared, Released, SlowBegin, SlowEnd, Marks}
+use Rattle.walter_base.specs.declared.message.Record.TheVariants.{Boot, Own, Got, Seen, Prepared, Released, SlowBegin, SlowEnd, Marks, Format as FormatRecord}
 use Rattle.walter_base.specs.declared.names.ObjId.{ObjId}
 use Rattle.walter_base.specs.declared.names.SiteId.{SiteId}
 use Rattle.walter_base.specs.declared.transaction.Tx.{Tx}
@@ -77,6 +78,11 @@ pub record CanEnd (K : Knowledge) (n : ℕ) : Type 0 where
   pub asked : List SiteId
   pub undecided : K.slow n ≡ Undecided tx asked
 
+-- no record before it says that the records behind it are in the second format
+pub record CanChange (K : Knowledge) : Type 0 where
+  pub booted : 0 < K.epoch
+  pub first : K.format ≡ First
+
 -- the record can follow those that tell this
 abbrev pub CanFollow : Catalog → SiteId → Knowledge → Record → Type 0
 CanFollow catalog i K (Boot epoch) = epoch ≡ K.epoch + 1
@@ -88,6 +94,7 @@ CanFollow catalog i K (Released j n) = CanRelease catalog i K j n
 CanFollow catalog i K (SlowBegin n tx) = IsNextSlow catalog i K n tx
 CanFollow catalog i K (SlowEnd n) = CanEnd K n
 CanFollow catalog i K (Marks durable visible) = CanRise i K durable visible
+CanFollow catalog i K FormatRecord = CanChange K
 
 -- what these records tell, behind those that tell this
 abbrev pub replayed : Catalog → SiteId → Knowledge → List Record → Knowledge

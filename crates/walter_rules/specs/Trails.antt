@@ -11,11 +11,11 @@ use Rattle.walter_rules.specs.declared.entry.Came.{Came}
 use Rattle.walter_rules.specs.declared.entry.Entry.{Entry}
 use Rattle.walter_rules.specs.declared.event.Event.{Event}
 use Rattle.walter_rules.specs.declared.event.Event.TheVariants.{Given, Restart}
-use Rattle.walter_rules.specs.declared.event.Input.TheVariants.{Call, Deliver, Advance, Tick}
+use Rattle.walter_rules.specs.declared.event.Input.TheVariants.{Call, Deliver, Advance, Tick, Upgrade}
 use Rattle.walter_rules.specs.declared.outcome.Outcome.{Outcome}
 use Rattle.walter_rules.specs.declared.outcome.Outcome.TheVariants.{Replied, Taken, Failed, Full, Memory}
 use Rattle.walter_rules.specs.Calls.{Expected}
-use Rattle.walter_rules.specs.Layouts.{Layout, need_of, left_behind, FitsIn}
+use Rattle.walter_rules.specs.Layouts.{Layout, header_of, need_in, left_behind, FitsIn}
 use Rattle.walter_rules.specs.Rule.{rule, MayWant}
 use Rattle.walter_rules.specs.Sending.{Send}
 use Rattle.walter_rules.specs.Standing.{Standing, unmade, settled, stands_after}
@@ -83,13 +83,15 @@ abbrev pub fullness : Event → ℕ → ℕ → Outcome
 fullness (Given (Call client call)) need left = Replied (Refused (JournalFull need left))
 fullness event need left = Full need left
 
--- an event that may want memory: some calls, what comes from other sites, an Advance and a Tick at a site that is up;
+-- an event that may want memory: some calls, what comes from other sites, an Advance, a Tick and an Upgrade at a site
+-- that is up;
 -- and a restart of one that is down
 abbrev pub TakesMemory : Bool → Event → Type 0
 TakesMemory true (Given (Call client call)) = MayWant call
 TakesMemory true (Given (Deliver from number packet)) = Unit {0}
 TakesMemory true (Given (Advance from)) = Unit {0}
 TakesMemory true (Given Tick) = Unit {0}
+TakesMemory true (Given Upgrade) = Unit {0}
 TakesMemory false Restart = Unit {0}
 TakesMemory up event = ⊥
 
@@ -97,14 +99,14 @@ TakesMemory up event = ⊥
 -- read; or memory ran out; or the record needs more than is left
 pub data Comes (catalog : Catalog) (layout : Layout) (i : SiteId) (S : Standing) (event : Event)
     (came : Came) : Type 0 where
-  ruled : IfSome (rule catalog i S event).wrote (FitsIn layout S) → IsAsRuled S (rule catalog i S event) came
+  ruled : IfSome (rule (header_of layout) catalog i S event).wrote (FitsIn layout S) → IsAsRuled S (rule (header_of layout) catalog i S event) came
       → Comes catalog layout i S event came
-  met_fault : (rec : Record) → (rule catalog i S event).wrote ≡ Some rec → FitsIn layout S rec
+  met_fault : (rec : Record) → (rule (header_of layout) catalog i S event).wrote ≡ Some rec → FitsIn layout S rec
       → IsOnly came (failure event rec) (Some rec) → Comes catalog layout i S event came
   unread : event ≡ Restart → S.up ≡ false → IsOnly came Failed None → Comes catalog layout i S event came
   no_memory : TakesMemory S.up event → IsOnly came (want event) None → Comes catalog layout i S event came
-  full : (rec : Record) → (rule catalog i S event).wrote ≡ Some rec → left_behind layout S < need_of rec
-      → IsOnly came (fullness event (need_of rec) (left_behind layout S)) None
+  full : (rec : Record) → (rule (header_of layout) catalog i S event).wrote ≡ Some rec → left_behind layout S < need_in layout S rec
+      → IsOnly came (fullness event (need_in layout S rec) (left_behind layout S)) None
       → Comes catalog layout i S event came
 
 -- a restart of a site that is down may find the record in flight

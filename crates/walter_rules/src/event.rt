@@ -20,6 +20,8 @@ pub enum Input {
     },
     /// The site is to say again what its peers may have missed.
     Tick,
+    /// The site is to journal in the second format from now on.
+    Upgrade,
 }
 
 /// What happens to a site.

@@ -14,7 +14,7 @@ use Rattle.walter_psi.proofs.Lists.{Contains-nil, Contains-one, place_of, contai
 use Rattle.walter_rules.specs.declared.entry.Entry.{Entry}
 use Rattle.walter_rules.specs.declared.event.Event.{Event}
 use Rattle.walter_rules.specs.declared.event.Event.TheVariants.{Given, Stop, Restart}
-use Rattle.walter_rules.specs.declared.event.Input.TheVariants.{Call, Deliver, Advance, Tick}
+use Rattle.walter_rules.specs.declared.event.Input.TheVariants.{Call, Deliver, Advance, Tick, Upgrade}
 use Rattle.walter_rules.specs.Layouts.{Layout}
 use Rattle.walter_rules.specs.Merges.{Named, entries_of, named_from, merge, Stamped, sent_to, put_out_to, trail_of}
 use Rattle.walter_rules.specs.Sending.{Send}
@@ -28,6 +28,7 @@ next_above (Given (Call client call)) last stamp is = omega (arith, is)
 next_above (Given (Deliver from number packet)) last stamp is = is
 next_above (Given (Advance from)) last stamp is = omega (arith, is)
 next_above (Given Tick) last stamp is = omega (arith, is)
+next_above (Given Upgrade) last stamp is = omega (arith, is)
 next_above Stop last stamp is = omega (arith, is)
 next_above Restart last stamp is = omega (arith, is)
 

@@ -13,7 +13,7 @@ use Rattle.walter_rules.specs.declared.event.Event.TheVariants.{Restart}
 use Rattle.walter_rules.specs.declared.outcome.Outcome.{Outcome}
 use Rattle.walter_rules.specs.declared.outcome.Outcome.TheVariants.{Failed}
 use Rattle.walter_rules.specs.Allowed.{IsKind, IsTrueOf}
-use Rattle.walter_rules.specs.Layouts.{Layout}
+use Rattle.walter_rules.specs.Layouts.{Layout, header_of}
 use Rattle.walter_rules.specs.Learning.{after}
 use Rattle.walter_rules.specs.Rule.{rule}
 use Rattle.walter_rules.specs.Sending.{Send}
@@ -55,25 +55,25 @@ planned carried all sends dropped s (drops counts one rest more lost low is) c =
 pub step_of : (catalog : Catalog) (layout : Layout) (i : SiteId) (S : Standing) (event : Event) (came : Came)
     → Comes catalog layout i S event came → IsStep catalog i S event came
 step_of catalog layout i S event came (ruled fits is) =
-    let all = (rule_allowed catalog i S event).0 in
+    let all = (rule_allowed (header_of layout) catalog i S event).0 in
     stable
     (subst (λ (w : Option Record). IsKind catalog i S event w came.outcome) (sym is.wrote)
-    (subst (λ (o : Outcome). IsKind catalog i S event (rule catalog i S event).wrote o) (sym is.outcome) all.kind))
+    (subst (λ (o : Outcome). IsKind catalog i S event (rule (header_of layout) catalog i S event).wrote o) (sym is.outcome) all.kind))
     is.flight
     (λ to packet c.
     subst (λ (w : Option Record). IsTrueOf catalog i S.knows event
     (after catalog i S.knows event came.outcome w) to packet) (sym is.wrote)
     (subst (λ (o : Outcome). IsTrueOf catalog i S.knows event
-    (after catalog i S.knows event o (rule catalog i S event).wrote) to packet) (sym is.outcome)
-    (all.sent to packet (planned S.carried (rule catalog i S event).sends came.sends came.dropped
+    (after catalog i S.knows event o (rule (header_of layout) catalog i S event).wrote) to packet) (sym is.outcome)
+    (all.sent to packet (planned S.carried (rule (header_of layout) catalog i S event).sends came.sends came.dropped
     (to, packet) is.sends c))))
 step_of catalog layout i S event came (met_fault rec is fits only) =
-    let kind = (rule_allowed catalog i S event).0.kind in
-    flies rec (rule catalog i S event).outcome
-    (subst (λ (w : Option Record). IsKind catalog i S event w (rule catalog i S event).outcome) is kind) only
+    let kind = (rule_allowed (header_of layout) catalog i S event).0.kind in
+    flies rec (rule (header_of layout) catalog i S event).outcome
+    (subst (λ (w : Option Record). IsKind catalog i S event w (rule (header_of layout) catalog i S event).outcome) is kind) only
 step_of catalog layout i S event came (unread restart down only) = unread_step restart down only
 step_of catalog layout i S event came (no_memory takes only) = wants takes only
 step_of catalog layout i S event came (full rec is low only) =
-    let kind = (rule_allowed catalog i S event).0.kind in
-    finds_full rec (rule catalog i S event).outcome _ _
-    (subst (λ (w : Option Record). IsKind catalog i S event w (rule catalog i S event).outcome) is kind) only
+    let kind = (rule_allowed (header_of layout) catalog i S event).0.kind in
+    finds_full rec (rule (header_of layout) catalog i S event).outcome _ _
+    (subst (λ (w : Option Record). IsKind catalog i S event w (rule (header_of layout) catalog i S event).outcome) is kind) only

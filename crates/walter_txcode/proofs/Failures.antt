@@ -1,9 +1,10 @@
 -- Where a part can't be read, the bytes don't begin with the spelling of any value that has the part.
 use Rattle.std.proofs.Common.{◌≡◌, ◌≢◌, ℕ, suc, ◌+◌, ◌-◌, ◌*◌, ◌^◌, ◌<◌, ◌≤◌, List, [], ◌∷◌, ◌++◌, length, take, replicate, Result, Ok, Err, sym, ap, subst, ◌∙◌, append_assoc, arith}
-use Rattle.std.specs.Prelude.{All, flat_map, sum_by, IfErr, IsErrAnd}
+use Rattle.std.specs.Prelude.{◌↔◌, All, flat_map, sum_by, IfErr, IsErrAnd}
 use Rattle.std.proofs.lemmas.List.{length-append, length-take, append_cancel_left, replicate-append-replicate}
 use Rattle.std.proofs.lemmas.List.Concat.{flat_map-append, flat_map-cons}
-use Rattle.walter_base.specs.Vectors.{most_sites}
+use Rattle.walter_base.specs.declared.format.Format.{Format}
+use Rattle.walter_base.specs.declared.format.Format.TheVariants.{First, Second}
 use Rattle.walter_base.specs.declared.names.ObjId.{ObjId}
 use Rattle.walter_base.specs.declared.names.Tid.{Tid}
 use Rattle.walter_base.specs.declared.transaction.Tx.{Tx}
@@ -17,12 +18,12 @@ use Rattle.walter_txcode.specs.declared.fault.DecodeFault.{DecodeFault}
 use Rattle.walter_txcode.specs.declared.fault.DecodeFault.TheVariants.{Unspelled, NoMemory}
 use Rattle.walter_txcode.specs.Faults.{IfUnspelled, NoneBegins}
 use Rattle.walter_names.specs.Names.{object_spelled, tid_spelled, IsObject, IsTid, member_spelled}
-use Rattle.walter_base.specs.Sizes.{HasShortValue, size_of, size_of_update}
-use Rattle.walter_txcode.specs.Spelling.{numbers_spelled, vector_spelled, value_spelled, update_spelled, updates_spelled, head_spelled, spelling, AreFew, IsUpdate, HasSpelling}
+use Rattle.walter_base.specs.Sizes.{HasShortValue, size_in, size_of_vector, size_of_update, most_in}
+use Rattle.walter_txcode.specs.Spelling.{longest, numbers_spelled, vector_spelled, value_spelled, update_spelled, updates_spelled, head_spelled, spelling, AreFew, IsUpdate, HasSpelling}
 use Rattle.walter_names.proofs.Lengths.{length-tid_spelled, length-member_spelled}
 use Rattle.walter_txcode.proofs.Lengths.{length-numbers_spelled, length-value_spelled, length-update_spelled, length-updates_spelled, length-head_spelled, length-vector_spelled}
 use Rattle.walter_names.proofs.Prefixes.{same_object, same_tid}
-use Rattle.walter_txcode.proofs.Prefixes.{few_of, same_numbers, vector_parts, kind_of, fields_spelled, behind_kind, same_update, AreSpellable, AreSpellable-from_both, each_spelled, each_parts, HasHead, same_head, same_updates, first_two}
+use Rattle.walter_txcode.proofs.Prefixes.{few_of, same_numbers, vector_parts, vector_told, kind_of, fields_spelled, behind_kind, same_update, AreSpellable, AreSpellable-from_both, each_spelled, each_parts, HasHead, same_head, same_updates, first_two}
 
 pub IfUnspelled-weaker : (fault : DecodeFault) {P Q : Type 0} → (P → Q) → IfUnspelled fault P → IfUnspelled fault Q
 IfUnspelled-weaker Unspelled f h = f h
@@ -177,66 +178,86 @@ no_zero_at_all mid few rest = too_few 8 mid (number_spelled 8 0) rest (length-nu
 pub no_zero_but : (n : ℕ) (mid after : List ℕ) → n < 2 ^ 64 → n ≢ 0 → mid ≡ number_spelled 8 n ++ after → (rest : List ℕ) → mid ≢ number_spelled 8 0 ++ rest
 no_zero_but n mid after low other is rest e = other (same_number 8 n 0 after rest (omega (arith, low)) (omega arith) (sym is ∙ e)).0
 
-pub no_vector : (n : ℕ) (left : List ℕ) → n ≤ most_sites → length left < 8 * n → (v rest : List ℕ) → length v ≡ n → All (λ n. n < 2 ^ 64) v → left ≢ vector_spelled v ++ rest
-no_vector n left small few v rest long fits e =
-    omega (arith, ap length e, length-append (vector_spelled v) rest, length-vector_spelled v (omega (arith, long)))
+-- a vector of the first format that ends too early
+pub no_padded : (n : ℕ) (left : List ℕ) → n ≤ 8 → length left < 8 * n → (v rest : List ℕ) → length v ≡ n → All (λ n. n < 2 ^ 64) v → left ≢ vector_spelled First v ++ rest
+no_padded n left small few v rest long fits e =
+    omega (arith, ap length e, length-append (vector_spelled First v) rest, length-vector_spelled First v (omega (arith, long)))
 
-pub no_vector_tail : (n : ℕ) (found left mid : List ℕ) → length found ≡ n → left ≡ numbers_spelled found ++ mid → All (λ n. n < 2 ^ 64) found
-    → ((rest : List ℕ) → mid ≢ numbers_spelled (replicate (most_sites - n) 0) ++ rest)
-    → (v rest : List ℕ) → length v ≡ n → All (λ n. n < 2 ^ 64) v → left ≢ vector_spelled v ++ rest
-no_vector_tail n found left mid count is fits none v rest long fits_v e =
-    let same = same_numbers found v mid (numbers_spelled (replicate (most_sites - length v) 0) ++ rest) (count ∙ sym long) fits fits_v (sym is ∙ e ∙ vector_parts v rest) in
-    none rest (same.1 ∙ ap (λ n. numbers_spelled (replicate (most_sites - n) 0) ++ rest) long)
+pub no_padded_tail : (n : ℕ) (found left mid : List ℕ) → length found ≡ n → left ≡ numbers_spelled found ++ mid → All (λ n. n < 2 ^ 64) found
+    → ((rest : List ℕ) → mid ≢ numbers_spelled (replicate (8 - n) 0) ++ rest)
+    → (v rest : List ℕ) → length v ≡ n → All (λ n. n < 2 ^ 64) v → left ≢ vector_spelled First v ++ rest
+no_padded_tail n found left mid count is fits none v rest long fits_v e =
+    let same = same_numbers found v mid (numbers_spelled (replicate (8 - length v) 0) ++ rest) (count ∙ sym long) fits fits_v (sym is ∙ e ∙ vector_parts v rest) in
+    none rest (same.1 ∙ ap (λ n. numbers_spelled (replicate (8 - n) 0) ++ rest) long)
+
+-- one of the second without its width, with another, or with too few numbers
+pub no_width : (left v rest : List ℕ) → length left < 1 → left ≢ vector_spelled Second v ++ rest
+no_width left v rest few e =
+    omega (arith, ap length (e ∙ vector_told v rest), length-append (number_spelled 1 (length v)) (numbers_spelled v ++ rest), length-number_spelled 1 (length v), few)
+
+pub other_width : (n width : ℕ) (left mid : List ℕ) → n ≤ 16 → width < 256 → width ≢ n → left ≡ number_spelled 1 width ++ mid
+    → (v rest : List ℕ) → length v ≡ n → left ≢ vector_spelled Second v ++ rest
+other_width n width left mid few low other is v rest long e =
+    other ((same_number 1 width (length v) mid (numbers_spelled v ++ rest) (omega (arith, low)) (omega (arith, long, few)) (sym is ∙ e ∙ vector_told v rest)).0 ∙ long)
+
+pub no_numbers : (n width : ℕ) (left mid : List ℕ) → n ≤ 16 → width < 256 → left ≡ number_spelled 1 width ++ mid → length mid < 8 * n
+    → (v rest : List ℕ) → length v ≡ n → left ≢ vector_spelled Second v ++ rest
+no_numbers n width left mid few low is short v rest long e =
+    let behind = (same_number 1 width (length v) mid (numbers_spelled v ++ rest) (omega (arith, low)) (omega (arith, long, few)) (sym is ∙ e ∙ vector_told v rest)).1 in
+    omega (arith, ap length behind, length-append (numbers_spelled v) rest, length-numbers_spelled v, long, short)
 
 -- ---- what stands before the updates
 
 -- none of so many sites begins the bytes
-abbrev pub NoHead : ℕ → List ℕ → Type 0
-NoHead sites left =
-    (tid : Tid) (slow : ℕ) (start rest : List ℕ) → length start ≡ sites → IsTid tid → slow < 2 ^ 64 → All (λ number. number < 2 ^ 64) start → left ≢ head_spelled tid slow start ++ rest
+abbrev pub NoHead : Format → ℕ → List ℕ → Type 0
+NoHead format sites left =
+    (tid : Tid) (slow : ℕ) (start rest : List ℕ) → length start ≡ sites → IsTid tid → slow < 2 ^ 64 → All (λ number. number < 2 ^ 64) start → left ≢ head_spelled format tid slow start ++ rest
 
-pub NoHead-from_few : (sites : ℕ) (left : List ℕ) → sites ≤ most_sites → length left < 85 → NoHead sites left
-NoHead-from_few sites left small few tid slow start rest long named low fits = too_few 85 left (head_spelled tid slow start) rest (length-head_spelled tid slow start (omega (arith, long))) few
+pub NoHead-from_few : (format : Format) (sites : ℕ) (left : List ℕ) → length left < 21 → NoHead format sites left
+NoHead-from_few format sites left few tid slow start rest long named low fits e =
+    too_few 21 left (first_two tid slow) (vector_spelled format start ++ rest)
+    (omega (arith, length-append (tid_spelled tid) (number_spelled 8 slow), length-tid_spelled tid, length-number_spelled 8 slow)) few
+    (e ∙ append_assoc (first_two tid slow) (vector_spelled format start) rest)
 
-pub NoHead-without_number : (sites : ℕ) (name : Tid) (left mid : List ℕ) → sites ≤ most_sites → left ≡ tid_spelled name ++ mid → length mid < 8 → NoHead sites left
-NoHead-without_number sites name left mid small is few =
-    NoHead-from_few sites left small (omega (arith, ap length is, length-append (tid_spelled name) mid, length-tid_spelled name))
+pub NoHead-without_number : (format : Format) (sites : ℕ) (name : Tid) (left mid : List ℕ) → left ≡ tid_spelled name ++ mid → length mid < 8 → NoHead format sites left
+NoHead-without_number format sites name left mid is few =
+    NoHead-from_few format sites left (omega (arith, ap length is, length-append (tid_spelled name) mid, length-tid_spelled name))
 
-pub NoHead-without_vector : (sites : ℕ) (name : Tid) (number : ℕ) (left mid after : List ℕ) → IsTid name → number < 2 ^ 64 → left ≡ tid_spelled name ++ mid → mid ≡ number_spelled 8 number ++ after
-    → ((v rest : List ℕ) → length v ≡ sites → All (λ n. n < 2 ^ 64) v → after ≢ vector_spelled v ++ rest) → NoHead sites left
-NoHead-without_vector sites name number left mid after named low is is_mid none tid slow start rest long fits_tid low_slow fits e =
-    let behind_tid = same_tid name tid mid (number_spelled 8 slow ++ (vector_spelled start ++ rest)) named fits_tid
-    (sym is ∙ e ∙ append_assoc (first_two tid slow) (vector_spelled start) rest ∙ append_assoc (tid_spelled tid) (number_spelled 8 slow) (vector_spelled start ++ rest)) in
-    let behind_slow = same_number 8 number slow after (vector_spelled start ++ rest) (omega (arith, low)) (omega (arith, low_slow)) (sym is_mid ∙ behind_tid.1) in
+pub NoHead-without_vector : (format : Format) (sites : ℕ) (name : Tid) (number : ℕ) (left mid after : List ℕ) → IsTid name → number < 2 ^ 64 → left ≡ tid_spelled name ++ mid → mid ≡ number_spelled 8 number ++ after
+    → ((v rest : List ℕ) → length v ≡ sites → All (λ n. n < 2 ^ 64) v → after ≢ vector_spelled format v ++ rest) → NoHead format sites left
+NoHead-without_vector format sites name number left mid after named low is is_mid none tid slow start rest long fits_tid low_slow fits e =
+    let behind_tid = same_tid name tid mid (number_spelled 8 slow ++ (vector_spelled format start ++ rest)) named fits_tid
+    (sym is ∙ e ∙ append_assoc (first_two tid slow) (vector_spelled format start) rest ∙ append_assoc (tid_spelled tid) (number_spelled 8 slow) (vector_spelled format start ++ rest)) in
+    let behind_slow = same_number 8 number slow after (vector_spelled format start ++ rest) (omega (arith, low)) (omega (arith, low_slow)) (sym is_mid ∙ behind_tid.1) in
     none start rest long fits behind_slow.1
 
 -- ---- the whole
 
 -- what was read before the updates
-pub record Begins (sites : ℕ) (tid : Tid) (slow : ℕ) (start left mid : List ℕ) : Type 0 where
+pub record Begins (format : Format) (sites : ℕ) (tid : Tid) (slow : ℕ) (start left mid : List ℕ) : Type 0 where
   pub head : HasHead sites tid slow start
-  pub front : left ≡ head_spelled tid slow start ++ mid
+  pub front : left ≡ head_spelled format tid slow start ++ mid
 
-head_of : (sites : ℕ) (tx : Tx) → HasSpelling sites tx → HasHead sites tx.tid tx.slow tx.start
-head_of sites tx has = record { counted = has.sites; name = has.ranges.tid; number = has.ranges.slow; numbers = has.ranges.start }
+head_of : (format : Format) (sites : ℕ) (tx : Tx) → HasSpelling format sites tx → HasHead sites tx.tid tx.slow tx.start
+head_of format sites tx has = record { counted = has.sites; name = has.ranges.tid; number = has.ranges.slow; numbers = has.ranges.start }
 
-behind_head : (sites : ℕ) (tid : Tid) (slow : ℕ) (start left mid : List ℕ) (tx : Tx) (rest : List ℕ) → Begins sites tid slow start left mid → HasSpelling sites tx → left ≡ spelling tx ++ rest
+behind_head : (format : Format) (sites : ℕ) (tid : Tid) (slow : ℕ) (start left mid : List ℕ) (tx : Tx) (rest : List ℕ) → Begins format sites tid slow start left mid → HasSpelling format sites tx → left ≡ spelling format tx ++ rest
     → mid ≡ updates_spelled tx.updates ++ rest
-behind_head sites tid slow start left mid tx rest begins has e =
-    (same_head sites tid tx.tid slow tx.slow start tx.start mid (updates_spelled tx.updates ++ rest) begins.head (head_of sites tx has)
-    (sym begins.front ∙ e ∙ append_assoc (head_spelled tx.tid tx.slow tx.start) (updates_spelled tx.updates) rest)).3
+behind_head format sites tid slow start left mid tx rest begins has e =
+    (same_head format sites tid tx.tid slow tx.slow start tx.start mid (updates_spelled tx.updates ++ rest) begins.head (head_of format sites tx has)
+    (sym begins.front ∙ e ∙ append_assoc (head_spelled format tx.tid tx.slow tx.start) (updates_spelled tx.updates) rest)).3
 
-pub no_head : (sites : ℕ) (left : List ℕ) → NoHead sites left → NoneBegins (HasSpelling sites) spelling left
-no_head sites left none = record {
+pub no_head : (format : Format) (sites : ℕ) (left : List ℕ) → NoHead format sites left → NoneBegins (HasSpelling format sites) (spelling format) left
+no_head format sites left none = record {
   none = λ tx rest has e.
-      none tx.tid tx.slow tx.start (updates_spelled tx.updates ++ rest) has.sites has.ranges.tid has.ranges.slow has.ranges.start (e ∙ append_assoc (head_spelled tx.tid tx.slow tx.start) (updates_spelled tx.updates) rest);
+      none tx.tid tx.slow tx.start (updates_spelled tx.updates ++ rest) has.sites has.ranges.tid has.ranges.slow has.ranges.start (e ∙ append_assoc (head_spelled format tx.tid tx.slow tx.start) (updates_spelled tx.updates) rest);
 }
 
-pub no_transaction : (sites : ℕ) (tid : Tid) (slow : ℕ) (start left mid : List ℕ) → Begins sites tid slow start left mid
+pub no_transaction : (format : Format) (sites : ℕ) (tid : Tid) (slow : ℕ) (start left mid : List ℕ) → Begins format sites tid slow start left mid
     → ((us : List Update) (rest : List ℕ) → All IsUpdate us → AreFew us → mid ≢ updates_spelled us ++ rest)
-    → NoneBegins (HasSpelling sites) spelling left
-no_transaction sites tid slow start left mid begins none = record {
-  none = λ tx rest has e. none tx.updates rest has.ranges.updates (few_of tx has.sizes) (behind_head sites tid slow start left mid tx rest begins has e);
+    → NoneBegins (HasSpelling format sites) (spelling format) left
+no_transaction format sites tid slow start left mid begins none = record {
+  none = λ tx rest has e. none tx.updates rest has.ranges.updates (few_of tx has.sizes) (behind_head format sites tid slow start left mid tx rest begins has e);
 }
 
 -- how far a cursor moves
@@ -246,35 +267,51 @@ moved old mid new front back from to first second start end =
     omega (arith, ap length first.front, length-append front mid.left, ap length second.front, length-append back new.left, first.same, second.same, start, end)
 
 -- head and updates that were read, in so many bytes
-pub record IsRead (sites : ℕ) (tx : Tx) (left mid after : List ℕ) (from to : ℕ) : Type 0 where
-  pub small : sites ≤ most_sites
-  pub begins : Begins sites tx.tid tx.slow tx.start left mid
+pub record IsRead (format : Format) (sites : ℕ) (tx : Tx) (left mid after : List ℕ) (from to : ℕ) : Type 0 where
+  pub small : sites ≤ most_in format
+  pub begins : Begins format sites tx.tid tx.slow tx.start left mid
   pub front : mid ≡ updates_spelled tx.updates ++ after
   pub ranges : All IsUpdate tx.updates
   pub few : AreFew tx.updates
-  pub bytes : to ≡ from + (length (head_spelled tx.tid tx.slow tx.start) + length (updates_spelled tx.updates))
+  pub bytes : to ≡ from + (length (head_spelled format tx.tid tx.slow tx.start) + length (updates_spelled tx.updates))
 
-bytes_of : (sites : ℕ) (tx : Tx) (left mid after : List ℕ) (from to : ℕ) → IsRead sites tx left mid after from to → to ≡ from + size_of tx
-bytes_of sites tx left mid after from to is =
-    omega (arith, is.bytes, length-head_spelled tx.tid tx.slow tx.start (omega (arith, is.small, is.begins.head.counted)), length-updates_spelled tx.updates)
+bytes_of : (format : Format) (sites : ℕ) (tx : Tx) (left mid after : List ℕ) (from to : ℕ) → IsRead format sites tx left mid after from to → to ≡ from + size_in format tx
+bytes_of format sites tx left mid after from to is =
+    omega (arith, is.bytes, length-head_spelled format tx.tid tx.slow tx.start (omega (arith, is.small, is.begins.head.counted)), length-updates_spelled tx.updates)
 
-pub too_long : (sites : ℕ) (tx : Tx) (left mid after : List ℕ) (from to : ℕ) → IsRead sites tx left mid after from to → 60000 < to - from → NoneBegins (HasSpelling sites) spelling left
-too_long sites found left mid after from to is long = record {
+-- so many bytes are within the one exactly where they are within the other
+limit_in : (format : Format) (start : List ℕ) (rest : ℕ) → (23 + size_of_vector format start + rest ≤ longest format (length start)) ↔ (87 + rest ≤ 60000)
+limit_in First start rest = ((λ h. omega (arith, h)), (λ h. omega (arith, h)))
+limit_in Second start rest = ((λ h. omega (arith, h)), (λ h. omega (arith, h)))
+
+pub too_long : (format : Format) (sites : ℕ) (tx : Tx) (left mid after : List ℕ) (from to : ℕ) → IsRead format sites tx left mid after from to → longest format sites < to - from → NoneBegins (HasSpelling format sites) (spelling format) left
+too_long format sites found left mid after from to is long = record {
   none = λ tx rest has e.
       let same = same_updates found.updates tx.updates after rest is.ranges is.few has.ranges.updates (few_of tx has.sizes)
-      (sym is.front ∙ behind_head sites found.tid found.slow found.start left mid tx rest is.begins has e) in
-      omega (arith, long, bytes_of sites found left mid after from to is, ap (λ us. sum_by size_of_update us) same.0, has.sizes.updates.size);
+      (sym is.front ∙ behind_head format sites found.tid found.slow found.start left mid tx rest is.begins has e) in
+      let small = (limit_in format found.start (sum_by size_of_update found.updates)).1
+      (omega (arith, has.sizes.updates.size, ap (λ us. sum_by size_of_update us) same.0)) in
+      let wide : longest format (length found.start) ≡ longest format sites = ap (longest format) is.begins.head.counted in
+      omega (arith, long, bytes_of format sites found left mid after from to is, small, wide);
 }
 
-pub is_transaction : (sites : ℕ) (tx : Tx) (left mid after : List ℕ) (from to : ℕ) → IsRead sites tx left mid after from to → to - from ≤ 60000 → HasSpelling sites tx
-is_transaction sites tx left mid after from to is short =
+few_in : (format : Format) → most_in format ≤ 16
+few_in First = omega arith
+few_in Second = omega arith
+
+pub is_transaction : (format : Format) (sites : ℕ) (tx : Tx) (left mid after : List ℕ) (from to : ℕ) → IsRead format sites tx left mid after from to → to - from ≤ longest format sites → HasSpelling format sites tx
+is_transaction format sites tx left mid after from to is short =
     let head = is.begins.head in
+    let wide : longest format (length tx.start) ≡ longest format sites = ap (longest format) head.counted in
+    let small = (limit_in format tx.start (sum_by size_of_update tx.updates)).0
+    (omega (arith, short, bytes_of format sites tx left mid after from to is, wide)) in
     record {
+      fits = is.small;
       sites = head.counted;
       sizes = record {
-        sites = omega (arith, is.small, head.counted);
+        sites = omega (arith, is.small, few_in format, head.counted);
         some = is.few.some;
-        updates = record { few = is.few.few; values = is.few.values; size = omega (arith, short, bytes_of sites tx left mid after from to is) };
+        updates = record { few = is.few.few; values = is.few.values; size = small };
       };
       ranges = record { tid = head.name; slow = head.number; start = head.numbers; updates = is.ranges };
     }

@@ -2,6 +2,7 @@
 use Rattle.std.proofs.Common.{◌≡◌, ◌≢◌, ℕ, ◌^◌, ◌<◌, List, [], ◌++◌, length, sym, ap, ◌∙◌, append_assoc, arith}
 use Rattle.std.proofs.lemmas.List.{append-nil, length-append}
 use Rattle.std.specs.Prelude.{All}
+use Rattle.walter_base.specs.declared.format.Format.{Format}
 use Rattle.walter_fields.specs.Spellings.{number_spelled}
 use Rattle.walter_fields.proofs.Numbers.{length-number_spelled, same_number}
 use Rattle.walter_names.specs.Names.{object_spelled, tid_spelled, version_spelled, IsObject, IsTid, IsVersion}
@@ -85,8 +86,8 @@ no_object few = none_short IsObject object_spelled 12 length-object_spelled few
 abbrev pub IsVector : ℕ → List ℕ → Type 0
 IsVector n vector = (length vector ≡ n) × All (λ number. number < 2 ^ 64) vector
 
-pub no_vector : (n : ℕ) {left : List ℕ} → ((v rest : List ℕ) → length v ≡ n → All (λ number. number < 2 ^ 64) v → left ≢ vector_spelled v ++ rest) → NoneBegins (IsVector n) vector_spelled left
-no_vector n none = record { none = λ v rest is e. none v rest is.0 is.1 e }
+pub no_vector : (format : Format) (n : ℕ) {left : List ℕ} → ((v rest : List ℕ) → length v ≡ n → All (λ number. number < 2 ^ 64) v → left ≢ vector_spelled format v ++ rest) → NoneBegins (IsVector n) (vector_spelled format) left
+no_vector format n none = record { none = λ v rest is e. none v rest is.0 is.1 e }
 
 pub free_numbers : IsPrefixFree IsNumber (number_spelled 8)
 free_numbers = record { same = λ a b x y is_a is_b e. same_number 8 a b x y (omega (arith, is_a)) (omega (arith, is_b)) e }
@@ -100,14 +101,14 @@ free_versions = record { same = same_version }
 pub free_names : IsPrefixFree IsObject object_spelled
 free_names = record { same = same_object }
 
-pub free_vectors : (n : ℕ) → IsPrefixFree (IsVector n) vector_spelled
-free_vectors n = record { same = λ v w x y is_v is_w e. same_vector v w x y (is_v.0 ∙ sym is_w.0) is_v.1 is_w.1 e }
+pub free_vectors : (format : Format) (n : ℕ) → IsPrefixFree (IsVector n) (vector_spelled format)
+free_vectors format n = record { same = λ v w x y is_v is_w e. same_vector format v w x y (is_v.0 ∙ sym is_w.0) is_v.1 is_w.1 e }
 
-pub free_transactions : (sites : ℕ) → IsPrefixFree (HasSpelling sites) spelling
-free_transactions sites = record { same = same_transaction sites }
+pub free_transactions : (format : Format) (sites : ℕ) → IsPrefixFree (HasSpelling format sites) (spelling format)
+free_transactions format sites = record { same = same_transaction format sites }
 
 pub free_objects : IsPrefixFree AreSpelledObjects objects_spelled
 free_objects = record { same = same_objects }
 
-pub free_numbered : (sites : ℕ) → IsPrefixFree (IsNumbered sites) numbered_spelled
-free_numbered sites = free_both free_numbers (free_transactions sites)
+pub free_numbered : (format : Format) (sites : ℕ) → IsPrefixFree (IsNumbered format sites) (numbered_spelled format)
+free_numbered format sites = free_both free_numbers (free_transactions format sites)

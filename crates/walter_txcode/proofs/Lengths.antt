@@ -4,8 +4,9 @@ use Rattle.std.specs.Prelude.{flat_map, sum_by}
 use Rattle.std.proofs.lemmas.List.{length-append, length-replicate}
 use Rattle.std.proofs.lemmas.List.Concat.{flat_map-cons}
 use Rattle.std.proofs.lemmas.List.Sums.{sum_by-cons}
-use Rattle.walter_base.specs.Vectors.{most_sites}
-use Rattle.walter_base.specs.Sizes.{size_of, size_of_update}
+use Rattle.walter_base.specs.Sizes.{size_in, size_of_vector, size_of_update, most_in}
+use Rattle.walter_base.specs.declared.format.Format.{Format}
+use Rattle.walter_base.specs.declared.format.Format.TheVariants.{First, Second}
 use Rattle.walter_base.specs.declared.names.ObjId.{ObjId}
 use Rattle.walter_base.specs.declared.names.Tid.{Tid}
 use Rattle.walter_base.specs.declared.transaction.Tx.{Tx}
@@ -23,9 +24,12 @@ length-numbers_spelled (n ∷ numbers) =
     let others = length-numbers_spelled numbers in
     rw flat_map-cons (omega (arith, length-append (number_spelled 8 n) (numbers_spelled numbers), length-number_spelled 8 n))
 
-pub length-vector_spelled : (vector : List ℕ) → length vector ≤ most_sites → length (vector_spelled vector) ≡ 64
-length-vector_spelled vector few =
-    omega (arith, length-numbers_spelled (vector ++ replicate (most_sites - length vector) 0), length-append vector (replicate (most_sites - length vector) 0), length-replicate {A = ℕ} (most_sites - length vector) 0)
+pub length-vector_spelled : (format : Format) (vector : List ℕ) → length vector ≤ most_in format
+    → length (vector_spelled format vector) ≡ size_of_vector format vector
+length-vector_spelled First vector few =
+    omega (arith, length-numbers_spelled (vector ++ replicate (8 - length vector) 0), length-append vector (replicate (8 - length vector) 0), length-replicate {A = ℕ} (8 - length vector) 0)
+length-vector_spelled Second vector few =
+    omega (arith, length-append (number_spelled 1 (length vector)) (numbers_spelled vector), length-number_spelled 1 (length vector), length-numbers_spelled vector)
 
 pub length-value_spelled : (oid : ObjId) (bytes : List ℕ) → length (value_spelled oid bytes) ≡ 16 + length bytes
 length-value_spelled oid bytes = omega (arith, length-append (object_spelled oid) (block_spelled bytes), length-object_spelled oid, length-block_spelled bytes)
@@ -45,18 +49,20 @@ length-each (u ∷ us) =
 pub length-updates_spelled : (us : List Update) → length (updates_spelled us) ≡ 2 + sum_by size_of_update us
 length-updates_spelled us = omega (arith, length-append (number_spelled 2 (length us)) (flat_map update_spelled us), length-number_spelled 2 (length us), length-each us)
 
-pub length-head_spelled : (tid : Tid) (slow : ℕ) (start : List ℕ) → length start ≤ most_sites → length (head_spelled tid slow start) ≡ 85
-length-head_spelled tid slow start few =
+pub length-head_spelled : (format : Format) (tid : Tid) (slow : ℕ) (start : List ℕ) → length start ≤ most_in format
+    → length (head_spelled format tid slow start) ≡ 21 + size_of_vector format start
+length-head_spelled format tid slow start few =
     omega (
       arith,
-      length-append (tid_spelled tid ++ number_spelled 8 slow) (vector_spelled start),
+      length-append (tid_spelled tid ++ number_spelled 8 slow) (vector_spelled format start),
       length-append (tid_spelled tid) (number_spelled 8 slow),
       length-tid_spelled tid,
       length-number_spelled 8 slow,
-      length-vector_spelled start few,
+      length-vector_spelled format start few,
     )
 
--- the spelling has the size of the transaction
-pub length-spelling : (tx : Tx) → length tx.start ≤ most_sites → length (spelling tx) ≡ size_of tx
-length-spelling tx few =
-    omega (arith, length-append (head_spelled tx.tid tx.slow tx.start) (updates_spelled tx.updates), length-head_spelled tx.tid tx.slow tx.start few, length-updates_spelled tx.updates)
+-- the spelling has the size of the transaction in the format
+pub length-spelling : (format : Format) (tx : Tx) → length tx.start ≤ most_in format
+    → length (spelling format tx) ≡ size_in format tx
+length-spelling format tx few =
+    omega (arith, length-append (head_spelled format tx.tid tx.slow tx.start) (updates_spelled tx.updates), length-head_spelled format tx.tid tx.slow tx.start few, length-updates_spelled tx.updates)

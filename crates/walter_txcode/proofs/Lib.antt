@@ -5,3 +5,4 @@ pub mod Padded
 pub mod Rising
 pub mod Joined
 pub mod ByKind
+pub mod Formats

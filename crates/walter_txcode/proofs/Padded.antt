@@ -3,7 +3,7 @@ use Rattle.std.proofs.Common.{◌≡◌, ℕ, zero, suc, ◌+◌, ◌-◌, ◌<�
 use Rattle.std.proofs.Math.Seq.{take-suc-set}
 use Rattle.std.proofs.lemmas.List.{append-nil, length-append, length-replicate}
 use Rattle.std.proofs.lemmas.List.Concat.{flat_map-append, flat_map-cons}
-use Rattle.walter_base.specs.Vectors.{most_sites, NoneFrom}
+use Rattle.walter_base.specs.Vectors.{NoneFrom}
 use Rattle.walter_fields.specs.Spellings.{number_spelled}
 use Rattle.walter_txcode.specs.Spelling.{numbers_spelled}
 
@@ -32,7 +32,7 @@ padded_at (n ∷ v) k zero = refl
 padded_at (n ∷ v) k (suc i) = padded_at v k i
 
 abbrev pub padded : List ℕ → List ℕ
-padded v = v ++ replicate (most_sites - length v) 0
+padded v = v ++ replicate (8 - length v) 0
 
-pub length-padded : (v : List ℕ) → length v ≤ most_sites → length (padded v) ≡ most_sites
-length-padded v few = omega (arith, length-append v (replicate (most_sites - length v) 0), length-replicate {A = ℕ} (most_sites - length v) 0)
+pub length-padded : (v : List ℕ) → length v ≤ 8 → length (padded v) ≡ 8
+length-padded v few = omega (arith, length-append v (replicate (8 - length v) 0), length-replicate {A = ℕ} (8 - length v) 0)

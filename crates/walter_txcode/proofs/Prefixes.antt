@@ -5,7 +5,8 @@ use Rattle.std.specs.List.{AllByRecursion}
 use Rattle.std.proofs.lemmas.List.{append-nil, append_cancel_left}
 use Rattle.std.proofs.lemmas.List.Concat.{flat_map-cons, flat_map-append}
 use Rattle.std.proofs.lemmas.List.Elements.{recursion_from_All}
-use Rattle.walter_base.specs.Vectors.{most_sites}
+use Rattle.walter_base.specs.declared.format.Format.{Format}
+use Rattle.walter_base.specs.declared.format.Format.TheVariants.{First, Second}
 use Rattle.walter_base.specs.declared.names.ObjId.{ObjId}
 use Rattle.walter_base.specs.declared.names.Tid.{Tid}
 use Rattle.walter_base.specs.declared.transaction.Tx.{Tx}
@@ -37,17 +38,26 @@ pub same_numbers : (xs ys x y : List ℕ) → length xs ≡ length ys → All (�
 same_numbers xs ys x y long fits_x fits_y e =
     each_number xs ys x y long (recursion_from_All (λ n. n < 2 ^ 64) xs fits_x) (recursion_from_All (λ n. n < 2 ^ 64) ys fits_y) e
 
--- a vector is its numbers, and then 0
-pub vector_parts : (v rest : List ℕ) → vector_spelled v ++ rest ≡ numbers_spelled v ++ (numbers_spelled (replicate (most_sites - length v) 0) ++ rest)
+-- in the first format a vector is its numbers, and then 0
+pub vector_parts : (v rest : List ℕ) → vector_spelled First v ++ rest ≡ numbers_spelled v ++ (numbers_spelled (replicate (8 - length v) 0) ++ rest)
 vector_parts v rest =
-    ap (λ t. t ++ rest) (flat_map-append (number_spelled 8) v (replicate (most_sites - length v) 0)) ∙ append_assoc (numbers_spelled v) (numbers_spelled (replicate (most_sites - length v) 0)) rest
+    ap (λ t. t ++ rest) (flat_map-append (number_spelled 8) v (replicate (8 - length v) 0)) ∙ append_assoc (numbers_spelled v) (numbers_spelled (replicate (8 - length v) 0)) rest
 
-pub same_vector : (v w x y : List ℕ) → length v ≡ length w → All (λ n. n < 2 ^ 64) v → All (λ n. n < 2 ^ 64) w → vector_spelled v ++ x ≡ vector_spelled w ++ y → (v ≡ w) × (x ≡ y)
-same_vector v w x y long fits_v fits_w e =
-    let zeros_v = numbers_spelled (replicate (most_sites - length v) 0) in
-    let zeros_w = numbers_spelled (replicate (most_sites - length w) 0) in
+-- in the second it is its width, and its numbers
+pub vector_told : (v rest : List ℕ) → vector_spelled Second v ++ rest ≡ number_spelled 1 (length v) ++ (numbers_spelled v ++ rest)
+vector_told v rest = append_assoc (number_spelled 1 (length v)) (numbers_spelled v) rest
+
+pub same_vector : (format : Format) (v w x y : List ℕ) → length v ≡ length w → All (λ n. n < 2 ^ 64) v → All (λ n. n < 2 ^ 64) w
+    → vector_spelled format v ++ x ≡ vector_spelled format w ++ y → (v ≡ w) × (x ≡ y)
+same_vector First v w x y long fits_v fits_w e =
+    let zeros_v = numbers_spelled (replicate (8 - length v) 0) in
+    let zeros_w = numbers_spelled (replicate (8 - length w) 0) in
     let one = same_numbers v w (zeros_v ++ x) (zeros_w ++ y) long fits_v fits_w (sym (vector_parts v x) ∙ e ∙ vector_parts w y) in
-    (one.0, append_cancel_left zeros_v x y (one.1 ∙ ap (λ n. numbers_spelled (replicate (most_sites - n) 0) ++ y) (sym long)))
+    (one.0, append_cancel_left zeros_v x y (one.1 ∙ ap (λ n. numbers_spelled (replicate (8 - n) 0) ++ y) (sym long)))
+same_vector Second v w x y long fits_v fits_w e =
+    same_numbers v w x y long fits_v fits_w
+    (append_cancel_left (number_spelled 1 (length v)) (numbers_spelled v ++ x) (numbers_spelled w ++ y)
+    (sym (vector_told v x) ∙ e ∙ vector_told w y ∙ ap (λ n. number_spelled 1 n ++ (numbers_spelled w ++ y)) (sym long)))
 
 pub same_value : (a b : ObjId) (v w x y : List ℕ) → IsObject a → IsObject b → length v ≤ 4096 → length w ≤ 4096 → value_spelled a v ++ x ≡ value_spelled b w ++ y → (a ≡ b) × (v ≡ w) × (x ≡ y)
 same_value a b v w x y fits_a fits_b short_v short_w e =
@@ -152,25 +162,25 @@ pub record HasHead (n : ℕ) (tid : Tid) (slow : ℕ) (start : List ℕ) : Type 
 abbrev pub first_two : Tid → ℕ → List ℕ
 first_two tid slow = tid_spelled tid ++ number_spelled 8 slow
 
-pub same_head : (n : ℕ) (a b : Tid) (m k : ℕ) (v w x y : List ℕ) → HasHead n a m v → HasHead n b k w → head_spelled a m v ++ x ≡ head_spelled b k w ++ y → (a ≡ b) × (m ≡ k) × (v ≡ w) × (x ≡ y)
-same_head n a b m k v w x y head_a head_b e =
-    let inner = regrouped (first_two a m) (vector_spelled v) x (first_two b k) (vector_spelled w) y e in
-    let one = same_tid a b (number_spelled 8 m ++ (vector_spelled v ++ x)) (number_spelled 8 k ++ (vector_spelled w ++ y)) head_a.name head_b.name
-    (regrouped (tid_spelled a) (number_spelled 8 m) (vector_spelled v ++ x) (tid_spelled b) (number_spelled 8 k) (vector_spelled w ++ y) inner) in
-    let two = same_number 8 m k (vector_spelled v ++ x) (vector_spelled w ++ y) (omega (arith, head_a.number)) (omega (arith, head_b.number)) one.1 in
-    let three = same_vector v w x y (head_a.counted ∙ sym head_b.counted) head_a.numbers head_b.numbers two.1 in
+pub same_head : (format : Format) (n : ℕ) (a b : Tid) (m k : ℕ) (v w x y : List ℕ) → HasHead n a m v → HasHead n b k w → head_spelled format a m v ++ x ≡ head_spelled format b k w ++ y → (a ≡ b) × (m ≡ k) × (v ≡ w) × (x ≡ y)
+same_head format n a b m k v w x y head_a head_b e =
+    let inner = regrouped (first_two a m) (vector_spelled format v) x (first_two b k) (vector_spelled format w) y e in
+    let one = same_tid a b (number_spelled 8 m ++ (vector_spelled format v ++ x)) (number_spelled 8 k ++ (vector_spelled format w ++ y)) head_a.name head_b.name
+    (regrouped (tid_spelled a) (number_spelled 8 m) (vector_spelled format v ++ x) (tid_spelled b) (number_spelled 8 k) (vector_spelled format w ++ y) inner) in
+    let two = same_number 8 m k (vector_spelled format v ++ x) (vector_spelled format w ++ y) (omega (arith, head_a.number)) (omega (arith, head_b.number)) one.1 in
+    let three = same_vector format v w x y (head_a.counted ∙ sym head_b.counted) head_a.numbers head_b.numbers two.1 in
     (one.0, two.0, three.0, three.1)
 
 -- no spelling of a transaction begins that of another
-pub same_transaction : (n : ℕ) (a b : Tx) (x y : List ℕ) → HasSpelling n a → HasSpelling n b → spelling a ++ x ≡ spelling b ++ y → (a ≡ b) × (x ≡ y)
-same_transaction n a b x y has_a has_b e =
+pub same_transaction : (format : Format) (n : ℕ) (a b : Tx) (x y : List ℕ) → HasSpelling format n a → HasSpelling format n b → spelling format a ++ x ≡ spelling format b ++ y → (a ≡ b) × (x ≡ y)
+same_transaction format n a b x y has_a has_b e =
     let head : HasHead n a.tid a.slow a.start = record { counted = has_a.sites; name = has_a.ranges.tid; number = has_a.ranges.slow; numbers = has_a.ranges.start } in
     let other : HasHead n b.tid b.slow b.start = record { counted = has_b.sites; name = has_b.ranges.tid; number = has_b.ranges.slow; numbers = has_b.ranges.start } in
-    let one = same_head n a.tid b.tid a.slow b.slow a.start b.start (updates_spelled a.updates ++ x) (updates_spelled b.updates ++ y) head other
-    (regrouped (head_spelled a.tid a.slow a.start) (updates_spelled a.updates) x (head_spelled b.tid b.slow b.start) (updates_spelled b.updates) y e) in
+    let one = same_head format n a.tid b.tid a.slow b.slow a.start b.start (updates_spelled a.updates ++ x) (updates_spelled b.updates ++ y) head other
+    (regrouped (head_spelled format a.tid a.slow a.start) (updates_spelled a.updates) x (head_spelled format b.tid b.slow b.start) (updates_spelled b.updates) y e) in
     let two = same_updates a.updates b.updates x y has_a.ranges.updates (few_of a has_a.sizes) has_b.ranges.updates (few_of b has_b.sizes) one.3 in
     ((λ i. record { tid = one.0 i; slow = one.1 i; start = one.2 i; updates = two.0 i }), two.1)
 
--- transactions with the same spelling are the same
-pub same_spelling : (n : ℕ) (a b : Tx) → HasSpelling n a → HasSpelling n b → spelling a ≡ spelling b → a ≡ b
-same_spelling n a b has_a has_b e = (same_transaction n a b [] [] has_a has_b (append-nil (spelling a) ∙ e ∙ sym (append-nil (spelling b)))).0
+-- transactions with the same spelling format are the same
+pub same_spelling : (format : Format) (n : ℕ) (a b : Tx) → HasSpelling format n a → HasSpelling format n b → spelling format a ≡ spelling format b → a ≡ b
+same_spelling format n a b has_a has_b e = (same_transaction format n a b [] [] has_a has_b (append-nil (spelling format a) ∙ e ∙ sym (append-nil (spelling format b)))).0

@@ -1,8 +1,9 @@
 -- How a transaction is spelled, and which transactions have a spelling (docs/FORMATS.md, "Transaction").
-use Rattle.std.specs.Prelude.{◌≡◌, ◌-◌, ◌<◌, ◌≤◌, ◌^◌, ℕ, List, ◌++◌, length, replicate, All, flat_map}
+use Rattle.std.specs.Prelude.{◌≡◌, ◌+◌, ◌*◌, ◌-◌, ◌<◌, ◌≤◌, ◌^◌, ℕ, List, ◌++◌, length, replicate, All, flat_map}
 use Rattle.walter_base.specs.Names.{AreRising}
-use Rattle.walter_base.specs.Sizes.{HasShortValue, CanBeSpelled, CanBeListed}
-use Rattle.walter_base.specs.Vectors.{most_sites}
+use Rattle.walter_base.specs.Sizes.{HasShortValue, CanBeSpelled, CanBeListed, most_in}
+use Rattle.walter_base.specs.declared.format.Format.{Format}
+use Rattle.walter_base.specs.declared.format.Format.TheVariants.{First, Second}
 use Rattle.walter_base.specs.declared.names.ObjId.{ObjId}
 use Rattle.walter_base.specs.declared.names.Tid.{Tid}
 use Rattle.walter_base.specs.declared.transaction.Tx.{Tx}
@@ -15,9 +16,11 @@ use Rattle.walter_names.specs.Names.{object_spelled, tid_spelled, member_spelled
 abbrev pub numbers_spelled : List ℕ → List ℕ
 numbers_spelled numbers = flat_map (number_spelled 8) numbers
 
--- a number for each site that there may be: those of the sites, and then 0
-abbrev pub vector_spelled : List ℕ → List ℕ
-vector_spelled vector = numbers_spelled (vector ++ replicate (most_sites - length vector) 0)
+-- in the first format a number for each of eight sites: those of the sites, and then 0; in the second the width, and
+-- the numbers
+abbrev pub vector_spelled : Format → List ℕ → List ℕ
+vector_spelled First vector = numbers_spelled (vector ++ replicate (8 - length vector) 0)
+vector_spelled Second vector = number_spelled 1 (length vector) ++ numbers_spelled vector
 
 -- the object and the value of a write
 abbrev pub value_spelled : ObjId → List ℕ → List ℕ
@@ -33,11 +36,11 @@ abbrev pub updates_spelled : List Update → List ℕ
 updates_spelled updates = number_spelled 2 (length updates) ++ flat_map update_spelled updates
 
 -- what stands before the updates
-abbrev pub head_spelled : Tid → ℕ → List ℕ → List ℕ
-head_spelled tid slow start = tid_spelled tid ++ number_spelled 8 slow ++ vector_spelled start
+abbrev pub head_spelled : Format → Tid → ℕ → List ℕ → List ℕ
+head_spelled format tid slow start = tid_spelled tid ++ number_spelled 8 slow ++ vector_spelled format start
 
-abbrev pub spelling : Tx → List ℕ
-spelling tx = head_spelled tx.tid tx.slow tx.start ++ updates_spelled tx.updates
+abbrev pub spelling : Format → Tx → List ℕ
+spelling format tx = head_spelled format tx.tid tx.slow tx.start ++ updates_spelled tx.updates
 
 -- from 1 to 256 updates, with short values
 pub record AreFew (updates : List Update) : Type 0 where
@@ -57,19 +60,25 @@ pub record IsInRange (tx : Tx) : Type 0 where
   pub start : All (λ number. number < 2 ^ 64) tx.start
   pub updates : All IsUpdate tx.updates
 
--- what has a spelling among n sites
-pub record HasSpelling (n : ℕ) (tx : Tx) : Type 0 where
+-- the most bytes of a spelling: of the first format it is the limit, which goes by the bytes of that
+abbrev pub longest : Format → ℕ → ℕ
+longest First sites = 60000
+longest Second sites = 59937 + 8 * sites
+
+-- what has a spelling in the format among n sites
+pub record HasSpelling (format : Format) (n : ℕ) (tx : Tx) : Type 0 where
+  pub fits : n ≤ most_in format
   pub sites : length tx.start ≡ n
   pub sizes : CanBeSpelled tx
   pub ranges : IsInRange tx
 
 -- a number, and a transaction behind it
-abbrev pub numbered_spelled : ℕ × Tx → List ℕ
-numbered_spelled numbered = number_spelled 8 numbered.0 ++ spelling numbered.1
+abbrev pub numbered_spelled : Format → ℕ × Tx → List ℕ
+numbered_spelled format numbered = number_spelled 8 numbered.0 ++ spelling format numbered.1
 
--- what has a spelling among n sites
-abbrev pub IsNumbered : ℕ → ℕ × Tx → Type 0
-IsNumbered n numbered = (numbered.0 < 2 ^ 64) × HasSpelling n numbered.1
+-- what has a spelling in the format among n sites
+abbrev pub IsNumbered : Format → ℕ → ℕ × Tx → Type 0
+IsNumbered format n numbered = (numbered.0 < 2 ^ 64) × HasSpelling format n numbered.1
 
 -- their count, and each of them
 abbrev pub objects_spelled : List ObjId → List ℕ

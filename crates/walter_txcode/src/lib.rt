@@ -10,8 +10,8 @@ mod updates;
 mod vectors;
 
 pub use decoding::{decode, read_numbered, read_transaction};
-pub use encoding::{append, encode, write_numbered};
+pub use encoding::{append, encode, size_in, write_numbered};
 pub use fault::DecodeFault;
-pub use laws::{one_spelling, size_of_spelling};
+pub use laws::{no_spelling_in_both, one_spelling, size_of_spelling};
 pub use objects::{read_objects, write_objects};
 pub use vectors::{read_vector, write_vector};

@@ -1,4 +1,6 @@
 ghost use Rattle.std.specs.Prelude.{◌≡◌, ◌≢◌, ◌↔◌, ◌+◌, ◌-◌, ◌*◌, ◌≤◌, ◌<◌, ◌^◌, ◌++◌, ℕ, List, length, replicate, All, IsErr, IfOk, IfErr};
+ghost use Rattle.walter_base.specs.declared.format.Format.TheVariants.{First, Second};
+ghost use Rattle.walter_base.specs.Sizes.{most_in, size_of_vector};
 ghost use Rattle.walter_base.specs.Vectors.{most_sites};
 ghost use Rattle.walter_fields.specs.Cursors.{Takes};
 ghost use Rattle.walter_txcode.specs.Faults.{IfUnspelled};
@@ -6,8 +8,11 @@ ghost use Rattle.walter_txcode.specs.Spelling.{numbers_spelled, vector_spelled};
 
 use crate::fault::DecodeFault;
 use byteorder::{BigEndian, ByteOrder};
-use walter_base::{MOST_SITES, SiteId, Vts};
+use walter_base::{Format, SiteId, Vts};
 use walter_fields::{Appender, Cursor, Short};
+
+/// How many sites a vector of the first format has a number for.
+const PADDED: usize = 8;
 
 /// A vector of so many numbers.
 fn read_numbers(cursor: &mut Cursor, count: u8) -> Result<Vts, Short>
@@ -38,43 +43,113 @@ fn read_zeros(cursor: &mut Cursor, count: u8) -> Result<(), DecodeFault>
     Ok(())
 }
 
-/// The vector of so many sites with which the bytes that are left begin. Where there is none, some bytes may have been
-/// read.
-pub fn read_vector(cursor: &mut Cursor, sites: u8) -> Result<Vts, DecodeFault>
-    requires { sites ≤ most_sites }
-    ensures taken { IfOk result (λ v. Takes cursor.old cursor.new (vector_spelled v)) }
+/// In the first format: the numbers of so many sites, and then zeros.
+fn read_padded(cursor: &mut Cursor, sites: u8) -> Result<Vts, DecodeFault>
+    requires { sites ≤ 8 }
+    ensures taken { IfOk result (λ v. Takes cursor.old cursor.new (vector_spelled First v)) }
     ensures counted { IfOk result (λ v. length v ≡ sites) }
     ensures range { IfOk result (All (λ number. number < 2 ^ 64)) }
     ensures fault { IfErr result (λ fault. IfUnspelled fault ((v rest : List ℕ)
-        → length v ≡ sites → All (λ number. number < 2 ^ 64) v → cursor.old.left ≢ vector_spelled v ++ rest)) }
+        → length v ≡ sites → All (λ number. number < 2 ^ 64) v
+        → cursor.old.left ≢ vector_spelled First v ++ rest)) }
 {
     let vector = read_numbers(cursor, sites)?;
-    read_zeros(cursor, MOST_SITES as u8 - sites)?;
+    read_zeros(cursor, PADDED as u8 - sites)?;
     Ok(vector)
 }
 
-/// The numbers of all sites that there may be.
-fn numbers_of(vector: &Vts) -> [u64; MOST_SITES]
-    requires sites { length vector.now ≤ most_sites }
-    ensures all { result ≡ vector.now ++ replicate (most_sites - length vector.now) 0 }
+/// In the second: the width, which is how many sites there are, and the numbers.
+fn read_told(cursor: &mut Cursor, sites: u8) -> Result<Vts, DecodeFault>
+    requires { sites ≤ most_sites }
+    ensures taken { IfOk result (λ v. Takes cursor.old cursor.new (vector_spelled Second v)) }
+    ensures counted { IfOk result (λ v. length v ≡ sites) }
+    ensures range { IfOk result (All (λ number. number < 2 ^ 64)) }
+    ensures fault { IfErr result (λ fault. IfUnspelled fault ((v rest : List ℕ)
+        → length v ≡ sites → All (λ number. number < 2 ^ 64) v
+        → cursor.old.left ≢ vector_spelled Second v ++ rest)) }
+{
+    let width = cursor.u8()?;
+    if width != sites {
+        return Err(DecodeFault::Unspelled);
+    }
+    let vector = read_numbers(cursor, sites)?;
+    Ok(vector)
+}
+
+/// The vector of so many sites, in the format, with which the bytes that are left begin. Where there is none, some bytes
+/// may have been read.
+pub fn read_vector(cursor: &mut Cursor, sites: u8, format: Format) -> Result<Vts, DecodeFault>
+    requires { sites ≤ most_in format }
+    ensures taken { IfOk result (λ v. Takes cursor.old cursor.new (vector_spelled format v)) }
+    ensures counted { IfOk result (λ v. length v ≡ sites) }
+    ensures range { IfOk result (All (λ number. number < 2 ^ 64)) }
+    ensures fault { IfErr result (λ fault. IfUnspelled fault ((v rest : List ℕ)
+        → length v ≡ sites → All (λ number. number < 2 ^ 64) v
+        → cursor.old.left ≢ vector_spelled format v ++ rest)) }
+{
+    match format {
+        Format::First => read_padded(cursor, sites),
+        Format::Second => read_told(cursor, sites),
+    }
+}
+
+/// The numbers of all sites that the first format has a place for.
+fn numbers_of(vector: &Vts) -> [u64; PADDED]
+    requires sites { length vector.now ≤ 8 }
+    ensures all { result ≡ vector.now ++ replicate (8 - length vector.now) 0 }
     ensures ranges { All (λ number. number < 2 ^ 64) vector.now }
 {
-    let mut numbers = [0; MOST_SITES];
-    for site in 0..MOST_SITES {
+    let mut numbers = [0; PADDED];
+    for site in 0..PADDED {
         numbers[site] = vector.get(SiteId(site as u8));
     }
     numbers
 }
 
-/// Writes the vector's spelling behind what was written.
-pub fn write_vector(out: &mut Appender, vector: &Vts)
-    requires sites { length vector.now ≤ most_sites }
+fn write_padded(out: &mut Appender, vector: &Vts)
+    requires sites { length vector.now ≤ 8 }
     requires room { 64 ≤ out.old.room }
-    ensures bytes { out.new.bytes ≡ out.old.bytes ++ vector_spelled vector.now }
+    ensures bytes { out.new.bytes ≡ out.old.bytes ++ vector_spelled First vector.now }
     ensures room { out.new.room + 64 ≡ out.old.room }
     ensures ranges { All (λ number. number < 2 ^ 64) vector.now }
 {
     let mut bytes = [0; 64];
     BigEndian::write_u64_into(&numbers_of(vector), &mut bytes);
     out.bytes(&bytes);
+}
+
+fn write_numbers(out: &mut Appender, numbers: &[u64])
+    requires room { 8 * length numbers.now ≤ out.old.room }
+    ensures bytes { out.new.bytes ≡ out.old.bytes ++ numbers_spelled numbers.now }
+    ensures room { out.new.room + 8 * length numbers.now ≡ out.old.room }
+    ensures ranges { All (λ number. number < 2 ^ 64) numbers.now }
+{
+    for number in numbers {
+        out.u64(*number);
+    }
+}
+
+fn write_told(out: &mut Appender, vector: &Vts)
+    requires room { 1 + 8 * length vector.now ≤ out.old.room }
+    ensures bytes { out.new.bytes ≡ out.old.bytes ++ vector_spelled Second vector.now }
+    ensures room { out.new.room + (1 + 8 * length vector.now) ≡ out.old.room }
+    ensures ranges { All (λ number. number < 2 ^ 64) vector.now }
+{
+    let numbers = vector.as_slice();
+    out.u8(numbers.len() as u8);
+    write_numbers(out, numbers);
+}
+
+/// Writes the vector's spelling in the format behind what was written.
+pub fn write_vector(out: &mut Appender, vector: &Vts, format: Format)
+    requires sites { length vector.now ≤ most_in format }
+    requires room { size_of_vector format vector.now ≤ out.old.room }
+    ensures bytes { out.new.bytes ≡ out.old.bytes ++ vector_spelled format vector.now }
+    ensures room { out.new.room + size_of_vector format vector.now ≡ out.old.room }
+    ensures ranges { All (λ number. number < 2 ^ 64) vector.now }
+{
+    match format {
+        Format::First => write_padded(out, vector),
+        Format::Second => write_told(out, vector),
+    }
 }

@@ -1,4 +1,5 @@
 use Rattle.std.proofs.Common.{refl, arith}
+use Rattle.walter_base.specs.declared.format.Format.TheVariants.{Second}
 use Rattle.walter_names.specs.Names.{tid_spelled, IsTid}
 use Rattle.walter_txcode.specs.Spelling.{vector_spelled, objects_spelled, AreSpelledObjects}
 use Rattle.walter_txcode.proofs.Failures.{IfUnspelled-weaker, is_unspelled, is_fault}
@@ -9,7 +10,7 @@ pub returns-in_err-slow-clause-fault : goal.returns-in_err-slow-clause-fault
 returns-in_err-slow-clause-fault c =
     let n = c.args.sites in
     is_unspelled c.from_residual.result c.from_residual.ensures.1
-    (no_first (Both IsTid (Both (IsVector n) AreSpelledObjects)) (both_spelled tid_spelled (both_spelled vector_spelled objects_spelled)) (no_number (c.in_err-slow.ensures.short.0 refl)))
+    (no_first (Both IsTid (Both (IsVector n) AreSpelledObjects)) (both_spelled tid_spelled (both_spelled (vector_spelled Second) objects_spelled)) (no_number (c.in_err-slow.ensures.short.0 refl)))
 
 pub returns-in_err-tid-clause-fault : goal.returns-in_err-tid-clause-fault
 returns-in_err-tid-clause-fault c =
@@ -17,7 +18,7 @@ returns-in_err-tid-clause-fault c =
     let exit = c.from_residual-in_err-tid in
     let slow = c.in_ok-slow in
     is_unspelled exit.result exit.ensures.1
-    (no_second free_numbers slow.slow (omega arith) slow.ensures.taken.front (no_first (Both (IsVector n) AreSpelledObjects) (both_spelled vector_spelled objects_spelled) (no_tid (c.in_err-tid.ensures.short.0 refl))))
+    (no_second free_numbers slow.slow (omega arith) slow.ensures.taken.front (no_first (Both (IsVector n) AreSpelledObjects) (both_spelled (vector_spelled Second) objects_spelled) (no_tid (c.in_err-tid.ensures.short.0 refl))))
 
 pub returns-in_err-start-clause-fault : goal.returns-in_err-start-clause-fault
 returns-in_err-start-clause-fault c =
@@ -28,7 +29,7 @@ returns-in_err-start-clause-fault c =
     let tid = c.in_ok-tid in
     is_fault _ exit.result fault.field-0.0 exit.ensures.1
     (IfUnspelled-weaker fault.field-0.0
-    (λ none. no_second free_numbers slow.slow (omega arith) slow.ensures.taken.front (no_second free_tids tid.tid tid.ensures.range tid.ensures.taken.front (no_first AreSpelledObjects objects_spelled (no_vector n none)))) fault.ensures.fault)
+    (λ none. no_second free_numbers slow.slow (omega arith) slow.ensures.taken.front (no_second free_tids tid.tid tid.ensures.range tid.ensures.taken.front (no_first AreSpelledObjects objects_spelled (no_vector Second n none)))) fault.ensures.fault)
 
 pub returns-in_err-objects-clause-fault : goal.returns-in_err-objects-clause-fault
 returns-in_err-objects-clause-fault c =
@@ -41,4 +42,4 @@ returns-in_err-objects-clause-fault c =
     is_fault _ exit.result fault.field-0.0 exit.ensures.1
     (IfUnspelled-weaker fault.field-0.0
     (λ none. no_second free_numbers slow.slow (omega arith) slow.ensures.taken.front
-    (no_second free_tids tid.tid tid.ensures.range tid.ensures.taken.front (no_second (free_vectors n) start.start (start.ensures.counted, start.ensures.range) start.ensures.taken.front none))) fault.ensures.fault)
+    (no_second free_tids tid.tid tid.ensures.range tid.ensures.taken.front (no_second (free_vectors Second n) start.start (start.ensures.counted, start.ensures.range) start.ensures.taken.front none))) fault.ensures.fault)

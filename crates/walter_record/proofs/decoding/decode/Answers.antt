@@ -17,10 +17,10 @@ pub returns-else-is_at_end-clause-none : goal.returns-else-is_at_end-clause-none
 returns-else-is_at_end-clause-none c =
     let found = c.in-Ok in
     let left = left_of_whole c.new-cursor.result c.args.bytes.now c.new-cursor.ensures in
-    more_behind (free_records c.args.sites) left found.journaled found.ensures.spelled found.ensures.taken.front (λ ended. absurd (let true_is : IsTrue false = c.if-is_at_end.ensures.1 ended in cc))
+    more_behind (free_records c.args.format c.args.sites) left found.journaled found.ensures.spelled found.ensures.taken.front (λ ended. absurd (let true_is : IsTrue false = c.if-is_at_end.ensures.1 ended in cc))
 
 pub returns-in-Err-Unspelled-clause-none : goal.returns-in-Err-Unspelled-clause-none
 returns-in-Err-Unspelled-clause-none c =
     let err = c.in-Err-Unspelled in
     let left = left_of_whole c.new-cursor.result c.args.bytes.now c.new-cursor.ensures in
-    spells_none left (subst (λ fault. IfUnspelled fault (NoneBegins (HasRecordSpelling c.args.sites) record_spelled c.new-cursor.result.left)) err.field-0-is err.ensures.fault)
+    spells_none left (subst (λ fault. IfUnspelled fault (NoneBegins (HasRecordSpelling c.args.format c.args.sites) (record_spelled c.args.format) c.new-cursor.result.left)) err.field-0-is err.ensures.fault)

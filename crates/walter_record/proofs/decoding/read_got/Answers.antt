@@ -6,7 +6,7 @@ use Rattle.walter_record.proofs.decoding.read_got.Goals as goal
 
 pub returns-in_err-version-clause-fault : goal.returns-in_err-version-clause-fault
 returns-in_err-version-clause-fault c =
-    is_unspelled c.from_residual.result c.from_residual.ensures.1 (no_first (HasSpelling c.args.sites) spelling (no_version (c.in_err-version.ensures.short.0 refl)))
+    is_unspelled c.from_residual.result c.from_residual.ensures.1 (no_first (HasSpelling c.args.format c.args.sites) (spelling c.args.format) (no_version (c.in_err-version.ensures.short.0 refl)))
 
 pub returns-in_err-tx-clause-fault : goal.returns-in_err-tx-clause-fault
 returns-in_err-tx-clause-fault c =

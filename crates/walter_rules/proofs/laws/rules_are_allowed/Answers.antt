@@ -3,7 +3,7 @@ use Rattle.walter_rules.proofs.RulesAllowed.{rule_allowed}
 use Rattle.walter_rules.proofs.laws.rules_are_allowed.Goals as goal
 
 pub returns-clause-allowed : goal.returns-clause-allowed
-returns-clause-allowed c = λ catalog i S event. (rule_allowed catalog i S event).0
+returns-clause-allowed c = λ header catalog i S event. (rule_allowed header catalog i S event).0
 
 pub returns-clause-order : goal.returns-clause-order
-returns-clause-order c = λ catalog i S event. (rule_allowed catalog i S event).1
+returns-clause-order c = λ header catalog i S event. (rule_allowed header catalog i S event).1

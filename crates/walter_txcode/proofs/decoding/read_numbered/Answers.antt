@@ -6,7 +6,7 @@ use Rattle.walter_txcode.proofs.decoding.read_numbered.Goals as goal
 
 pub returns-in_err-number-clause-fault : goal.returns-in_err-number-clause-fault
 returns-in_err-number-clause-fault c =
-    is_unspelled c.from_residual.result c.from_residual.ensures.1 (no_first (HasSpelling c.args.sites) spelling (no_number (c.in_err-number.ensures.short.0 refl)))
+    is_unspelled c.from_residual.result c.from_residual.ensures.1 (no_first (HasSpelling c.args.format c.args.sites) (spelling c.args.format) (no_number (c.in_err-number.ensures.short.0 refl)))
 
 pub returns-in_err-tx-clause-fault : goal.returns-in_err-tx-clause-fault
 returns-in_err-tx-clause-fault c =

@@ -4,7 +4,6 @@ use Rattle.std.proofs.lemmas.Grind.{get_or-set_at}
 use Rattle.std.proofs.lemmas.List.{ext_get_or, get_or-set_other, length-set}
 use Rattle.std.proofs.lemmas.List.Elements.{All-from_get_or}
 use Rattle.std.specs.Prelude.{◌-◌}
-use Rattle.walter_base.specs.Vectors.{most_sites}
 use Rattle.walter_txcode.proofs.Padded.{padded, padded_at, length-padded}
 use Rattle.walter_txcode.proofs.vectors.numbers_of.Goals as goal
 
@@ -35,7 +34,7 @@ returns-clause-all c =
     let loop = c.loop-site in
     let v = c.args.vector.now in
     ext_get_or 0 loop.numbers (padded v) (loop.invariant.length ∙ sym (length-padded v c.requires.sites))
-    (λ k within. loop.invariant.front k (omega (arith, loop.invariant.length)) ∙ sym (padded_at v (most_sites - length v) k))
+    (λ k within. loop.invariant.front k (omega (arith, loop.invariant.length)) ∙ sym (padded_at v (8 - length v) k))
 
 pub returns-clause-ranges : goal.returns-clause-ranges
 returns-clause-ranges c =

@@ -10,7 +10,7 @@ pub invariant_of-self : goal.invariant_of-self
 invariant_of-self c place =
     let inside = c.self.inside in
     let with = bits_with inside.bits inside.sites.sites c.args.site c.self.invariant place in
-    subst (λ (ks : List SiteId). bit_at (bit_or inside.bits (1 * 2 ^ c.place_of.result % 2 ^ 16)) place
+    subst (λ (ks : List SiteId). bit_at (bit_or inside.bits (1 * 2 ^ c.place_of.result % 2 ^ 32)) place
     ≡ (if has_place ks place then 1 else 0)) (sym (ap (λ (g : GhostSites). g.sites) c.of-self-inside.ensures))
-    (subst (λ n. bit_at (bit_or inside.bits (1 * 2 ^ n % 2 ^ 16)) place
+    (subst (λ n. bit_at (bit_or inside.bits (1 * 2 ^ n % 2 ^ 32)) place
     ≡ (if has_place (inside.sites.sites ++ c.args.site ∷ []) place then 1 else 0)) (sym c.place_of.ensures) with)
