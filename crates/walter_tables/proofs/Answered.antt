@@ -75,6 +75,7 @@ pub stand_answered : (V : Values) (K : Knowledge) → StandFor V K → (event : 
 stand_answered V K S event outcome wrote starts2 sessions2 starts sessions = record {
   epoch = S.epoch;
   starts = starts;
+  format = S.format;
   log = S.log;
   rows = S.rows;
   totals = S.totals;

@@ -3,6 +3,7 @@ use Rattle.std.proofs.Common.{◌≡◌, ℕ, zero, suc, [], None, replicate, re
 use Rattle.std.specs.Prelude.{slice_index}
 use Rattle.std.proofs.lemmas.List.Elements.{All-nil}
 use Rattle.walter_base.specs.declared.catalog.Catalog.{Catalog}
+use Rattle.walter_base.specs.declared.format.Format.TheVariants.{First}
 use Rattle.walter_base.specs.declared.names.ObjId.{ObjId}
 use Rattle.walter_base.specs.declared.names.SiteId.{SiteId}
 use Rattle.walter_durable.specs.Marks.{unbegun as none_owned}
@@ -54,10 +55,12 @@ pub fresh_stands : (V : Values) → V.log ≡ [] → V.history ≡ record { floo
     → V.durable ≡ none_owned V.site V.catalog.sites V.catalog.tolerated
     → ((j : SiteId) (n : ℕ) → part_of V.locks j n ≡ Free) → ((oid : ObjId) → owner_of V.locks oid ≡ None)
     → V.slow.last ≡ 0 → ((n : ℕ) → commit_of V.slow n ≡ None) → V.sessions ≡ [] → V.epoch ≡ 0 → V.starts ≡ 0
+    → V.format ≡ First
     → StandFor V fresh
-fresh_stands V log history totals spread durable parts owners last kept sessions epoch starts = record {
+fresh_stands V log history totals spread durable parts owners last kept sessions epoch starts format = record {
   epoch = epoch;
   starts = starts;
+  format = format;
   log = log;
   rows = record {
     stand = λ oid. subst (λ h. StandsForRows oid h.floor (kept_of h oid) []) (sym history) (record {

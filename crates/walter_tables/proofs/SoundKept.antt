@@ -5,7 +5,7 @@ use Rattle.std.proofs.lemmas.List.{append-nil, length_push, map-append}
 use Rattle.std.proofs.lemmas.List.Elements.{All-push, All-nil, filter-append}
 use Rattle.walter_base.specs.declared.catalog.Catalog.{Catalog}
 use Rattle.walter_base.specs.declared.message.Record.{Record}
-use Rattle.walter_base.specs.declared.message.Record.TheVariants.{Boot, Own, Got, Seen, Prepared, Released, SlowBegin, SlowEnd, Marks}
+use Rattle.walter_base.specs.declared.message.Record.TheVariants.{Boot, Own, Got, Seen, Prepared, Released, SlowBegin, SlowEnd, Marks, Format as FormatRecord}
 use Rattle.walter_base.specs.declared.names.SiteId.{SiteId}
 use Rattle.walter_base.specs.declared.packet.Answer.TheVariants.{Yes, No, Later}
 use Rattle.walter_base.specs.declared.packet.Packet.TheVariants.{Propagate, Ack, Dsmark, Visible, Prepare, Vote, Release, Released as ReleasedSaid}
@@ -116,6 +116,7 @@ module _ (catalog : Catalog) (i : SiteId) (below : i.0 < catalog.sites) (K : Kno
   counted_then (SlowBegin n tx) f = S.counted
   counted_then (SlowEnd n) f = S.counted
   counted_then (Marks durable visible) f = S.counted
+  counted_then FormatRecord f = S.counted
 
   -- as many are received of the site itself as it has committed
   pub own_got : K.got i ≡ K.committed i
@@ -155,6 +156,7 @@ module _ (catalog : Catalog) (i : SiteId) (below : i.0 < catalog.sites) (K : Kno
   received_then (SlowBegin n tx) f k = S.received k
   received_then (SlowEnd n) f k = S.received k
   received_then (Marks durable visible) f k = S.received k
+  received_then FormatRecord f k = S.received k
 
   -- one more of a site, whose number is the next
   numbered_more : (h : Held) (got2 : SiteId → ℕ) → ((j : SiteId) → got2 j ≡ one_more h.tx.tid.site K.got j)
@@ -189,6 +191,7 @@ module _ (catalog : Catalog) (i : SiteId) (below : i.0 < catalog.sites) (K : Kno
   numbered_then (SlowBegin n tx) f j = S.numbered j
   numbered_then (SlowEnd n) f j = S.numbered j
   numbered_then (Marks durable visible) f j = S.numbered j
+  numbered_then FormatRecord f j = S.numbered j
 
   held_then : (rec : Record) → CanFollow catalog i K rec → IsRecordAmong catalog.sites rec
       → All (HoldsTx catalog) (log_after (Some rec) K.log)
@@ -203,6 +206,7 @@ module _ (catalog : Catalog) (i : SiteId) (below : i.0 < catalog.sites) (K : Kno
   held_then (SlowBegin n tx) f sizes = S.held
   held_then (SlowEnd n) f sizes = S.held
   held_then (Marks durable visible) f sizes = S.held
+  held_then FormatRecord f sizes = S.held
 
   begun_then : (rec : Record) → CanFollow catalog i K rec → (n : ℕ) → 1 ≤ n → n ≤ last_after (Some rec) K.last
       → IsBegun (slow_after catalog i K (Some rec) n)
@@ -222,6 +226,7 @@ module _ (catalog : Catalog) (i : SiteId) (below : i.0 < catalog.sites) (K : Kno
   begun_then (Prepared j m tid objects) f n low high = S.begun n low high
   begun_then (Released j m) f n low high = S.begun n low high
   begun_then (Marks durable visible) f n low high = S.begun n low high
+  begun_then FormatRecord f n low high = S.begun n low high
 
   -- a number that is still ahead was so
   was_ahead : (m n : ℕ) → m ≡ K.last + 1 → ((1 ≤ n) × (n ≤ m) → ⊥) → (1 ≤ n) × (n ≤ K.last) → ⊥
@@ -245,6 +250,7 @@ module _ (catalog : Catalog) (i : SiteId) (below : i.0 < catalog.sites) (K : Kno
   unused_then (Prepared j m tid objects) f n out = (S.ahead n out).unused
   unused_then (Released j m) f n out = (S.ahead n out).unused
   unused_then (Marks durable visible) f n out = (S.ahead n out).unused
+  unused_then FormatRecord f n out = (S.ahead n out).unused
 
   out_then : (rec : Record) → CanFollow catalog i K rec → (n : ℕ) → ((1 ≤ n) × (n ≤ last_after (Some rec) K.last) → ⊥)
       → (1 ≤ n) × (n ≤ K.last) → ⊥
@@ -257,6 +263,7 @@ module _ (catalog : Catalog) (i : SiteId) (below : i.0 < catalog.sites) (K : Kno
   out_then (Prepared j m tid objects) f n out = out
   out_then (Released j m) f n out = out
   out_then (Marks durable visible) f n out = out
+  out_then FormatRecord f n out = out
 
   -- one that is being decided was so, or is the new one
   abbrev AsksRight : ℕ → Slow → Type 0
@@ -300,6 +307,7 @@ module _ (catalog : Catalog) (i : SiteId) (below : i.0 < catalog.sites) (K : Kno
   asks_then (Prepared j m tid objects) f sizes n = S.asking n
   asks_then (Released j m) f sizes n = S.asking n
   asks_then (Marks durable visible) f sizes n = S.asking n
+  asks_then FormatRecord f sizes n = S.asking n
 
   -- behind a record that can follow
   pub sound_recorded : (rec : Record) → CanFollow catalog i K rec → IsRecordAmong catalog.sites rec

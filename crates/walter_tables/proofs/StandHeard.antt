@@ -92,6 +92,7 @@ module _ (V : Values) (K : Knowledge) (S : StandFor V K) (j : SiteId) (number : 
   stand_said packet news spread2 durable2 slow2 same spread durable slow = record {
     epoch = S.epoch;
     starts = S.starts;
+    format = S.format;
     log = S.log;
     rows = S.rows;
     totals = subst (λ (v : List ℕ). AreTotalsOf v K.log V.totals) (sym same) S.totals;

@@ -3,8 +3,10 @@ use Rattle.std.proofs.Common.{◌≡◌, ◌≢◌, ◌+◌, ◌-◌, ◌<◌, �
 use Rattle.std.proofs.lemmas.Bool.{cases_Bool, eqb-true, leb-true}
 use Rattle.std.proofs.lemmas.List.{length_push}
 use Rattle.std.proofs.lemmas.List.Elements.{All-weaker}
+use Rattle.walter_base.specs.declared.format.Format.{Format}
+use Rattle.walter_base.specs.declared.format.Format.TheVariants.{Second}
 use Rattle.walter_base.specs.declared.message.Record.{Record}
-use Rattle.walter_base.specs.declared.message.Record.TheVariants.{Boot, Own, Got, Seen, Prepared, Released, SlowBegin, SlowEnd, Marks}
+use Rattle.walter_base.specs.declared.message.Record.TheVariants.{Boot, Own, Got, Seen, Prepared, Released, SlowBegin, SlowEnd, Marks, Format as FormatRecord}
 use Rattle.walter_base.specs.declared.names.ObjId.{ObjId}
 use Rattle.walter_base.specs.declared.names.SiteId.{SiteId}
 use Rattle.walter_base.specs.declared.names.Tid.{Tid}
@@ -121,6 +123,7 @@ module _ (V : Values) (K : Knowledge) (S : StandFor V K) (below : V.site.0 < V.c
       let h : Held = record { seq = seq; tx = tx } in record {
         epoch = S.epoch;
         starts = S.starts;
+        format = S.format;
         log = log ∙ ap (λ hs. hs ++ h ∷ []) S.log;
         rows = rows;
         totals = subst (λ (P : Progress). AreTotalsOf P.committed (K.log ++ h ∷ []) totals2) (sym spread)
@@ -158,6 +161,7 @@ module _ (V : Values) (K : Knowledge) (S : StandFor V K) (below : V.site.0 < V.c
   stand_folded history2 rows = record {
     epoch = S.epoch;
     starts = S.starts;
+    format = S.format;
     log = S.log;
     rows = rows;
     totals = S.totals;
@@ -182,6 +186,7 @@ module _ (V : Values) (K : Knowledge) (S : StandFor V K) (below : V.site.0 < V.c
   stand_placed totals2 same = record {
     epoch = S.epoch;
     starts = S.starts;
+    format = S.format;
     log = S.log;
     rows = S.rows;
     totals = λ oid id. same oid id ∙ S.totals oid id;
@@ -239,6 +244,7 @@ module _ (V : Values) (K : Knowledge) (S : StandFor V K) (below : V.site.0 < V.c
       ] in record {
         epoch = S.epoch;
         starts = S.starts;
+        format = S.format;
         log = log ∙ ap (λ hs. hs ++ h ∷ []) S.log;
         rows = rows;
         totals = subst (λ (P : Progress). AreTotalsOf P.committed (K.log ++ h ∷ []) V.totals) (sym spread)
@@ -312,6 +318,7 @@ module _ (V : Values) (K : Knowledge) (S : StandFor V K) (below : V.site.0 < V.c
       record {
         epoch = S.epoch;
         starts = S.starts;
+        format = S.format;
         log = S.log;
         rows = S.rows;
         totals = subst (λ (P : Progress). AreTotalsOf P.committed K.log totals2) (sym spread)
@@ -350,6 +357,7 @@ module _ (V : Values) (K : Knowledge) (S : StandFor V K) (below : V.site.0 < V.c
   stand_prepared j m tid objects f sizes locks2 parts owners = record {
     epoch = S.epoch;
     starts = S.starts;
+    format = S.format;
     log = S.log;
     rows = S.rows;
     totals = S.totals;
@@ -372,6 +380,7 @@ module _ (V : Values) (K : Knowledge) (S : StandFor V K) (below : V.site.0 < V.c
   stand_released j m f locks2 parts owners = record {
     epoch = S.epoch;
     starts = S.starts;
+    format = S.format;
     log = S.log;
     rows = S.rows;
     totals = S.totals;
@@ -403,6 +412,7 @@ module _ (V : Values) (K : Knowledge) (S : StandFor V K) (below : V.site.0 < V.c
       record {
         epoch = S.epoch;
         starts = S.starts;
+        format = S.format;
         log = S.log;
         rows = S.rows;
         totals = S.totals;
@@ -440,6 +450,7 @@ module _ (V : Values) (K : Knowledge) (S : StandFor V K) (below : V.site.0 < V.c
   stand_ended m f locks2 slow2 parts owners last kept = record {
     epoch = S.epoch;
     starts = S.starts;
+    format = S.format;
     log = S.log;
     rows = S.rows;
     totals = S.totals;
@@ -470,6 +481,7 @@ module _ (V : Values) (K : Knowledge) (S : StandFor V K) (below : V.site.0 < V.c
   stand_marked durable visible f durable2 is = record {
     epoch = S.epoch;
     starts = S.starts;
+    format = S.format;
     log = S.log;
     rows = S.rows;
     totals = S.totals;
@@ -488,6 +500,23 @@ module _ (V : Values) (K : Knowledge) (S : StandFor V K) (below : V.site.0 < V.c
     sound = sound_then (Marks durable visible) f tt;
   }
 
+  pub stand_changed : CanFollow V.catalog V.site K FormatRecord → (format2 : Format) → format2 ≡ Second
+      → StandFor (record V { format = format2 }) (recorded V.catalog V.site (Some FormatRecord) K)
+  stand_changed f format2 is = record {
+    epoch = S.epoch;
+    starts = S.starts;
+    format = is;
+    log = S.log;
+    rows = S.rows;
+    totals = S.totals;
+    spread = record { received = S.spread.received; seen = S.spread.seen; durable = S.spread.durable };
+    durable = record { count = S.durable.count; homes = S.durable.homes; acknowledged = S.durable.acknowledged; visible = S.durable.visible; durable_floor = S.durable.durable_floor; visible_floor = S.durable.visible_floor };
+    locks = record { parts = S.locks.parts; owners = S.locks.owners };
+    slow = record { last = S.slow.last; kept = S.slow.kept };
+    sessions = S.sessions;
+    sound = sound_then FormatRecord f tt;
+  }
+
   pub stand_booted : (epoch : ℕ) → CanFollow V.catalog V.site K (Boot epoch) → (locks2 : Locks) (slow2 : SlowCommits)
       → ((j : SiteId) (n : ℕ) → part_of locks2 j n
       ≡ (if same_site V.site j then unlocked (part_of V.locks j n) else part_of V.locks j n))
@@ -499,6 +528,7 @@ module _ (V : Values) (K : Knowledge) (S : StandFor V K) (below : V.site.0 < V.c
   stand_booted epoch f locks2 slow2 parts freed others last kept = record {
     epoch = refl;
     starts = S.starts;
+    format = S.format;
     log = S.log;
     rows = S.rows;
     totals = S.totals;

@@ -16,6 +16,7 @@ values_of t = record {
   site = t.site;
   epoch = t.epoch;
   starts = t.starts;
+  format = t.format;
   log = t.log.log;
   history = t.history;
   totals = t.totals;

@@ -1,6 +1,7 @@
 -- What the tables of a site stand for.
 use Rattle.std.specs.Prelude.{◌≡◌, ℕ, List}
 use Rattle.walter_base.specs.declared.catalog.Catalog.{Catalog}
+use Rattle.walter_base.specs.declared.format.Format.{Format}
 use Rattle.walter_base.specs.declared.names.SiteId.{SiteId}
 use Rattle.walter_cset.specs.Totals.{Table as Totals}
 use Rattle.walter_durable.specs.Marks.{Holdings}
@@ -21,6 +22,7 @@ pub record Values : Type 0 where
   pub site : SiteId
   pub epoch : ℕ
   pub starts : ℕ
+  pub format : Format
   pub log : List Held
   pub history : History
   pub totals : Totals
@@ -34,6 +36,7 @@ pub record Values : Type 0 where
 pub record StandFor (V : Values) (K : Knowledge) : Type 0 where
   pub epoch : V.epoch ≡ K.epoch
   pub starts : V.starts ≡ K.starts
+  pub format : V.format ≡ K.format
   pub log : V.log ≡ K.log
   pub rows : AreRowsOf V.catalog K.log V.history
   pub totals : AreTotalsOf V.spread.committed K.log V.totals

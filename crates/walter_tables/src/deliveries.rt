@@ -142,7 +142,7 @@ impl Tables {
         }
         let seq = committed + 1;
         let tx = self.log.commit_at(from, seq)?;
-        if self.spread.enabled(from, tx.start.vector()) {
+        if self.spread.enabled(from, &tx.start.vector()) {
             Some(seq)
         } else {
             None

@@ -37,6 +37,7 @@ impl Tables {
             Record::SlowBegin(slow, tx) => self.fits_begun(*slow, tx, made.objects.as_slice()),
             Record::SlowEnd(slow) => self.fits_ended(*slow),
             Record::Marks(durable, visible) => self.fits_marks(*durable, *visible),
+            Record::Format => self.fits_format(),
         }
     }
 
@@ -102,7 +103,7 @@ impl Tables {
         ensures on { IsTrue result → (seq ≡ entry_at self.now.spread.got from + 1) × (tx.now.tid.site ≡ from) }
     {
         tx.tid.site == from
-            && self.is_next(from, seq, tx.start.vector())
+            && self.is_next(from, seq, &tx.start.vector())
             && are_declared(&self.catalog, tx.updates.as_slice())
     }
 
@@ -142,7 +143,7 @@ impl Tables {
             → Covers (values_of self.now).spread.committed tx.start) }
     {
         match self.log.commit_at(from, seq) {
-            Some(tx) => self.spread.committed().covers(tx.start.vector()),
+            Some(tx) => self.spread.committed().covers(&tx.start.vector()),
             None => true,
         }
     }

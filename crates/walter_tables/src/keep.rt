@@ -37,6 +37,7 @@ impl Tables {
             Record::SlowBegin(slow, tx) => self.keep_begun(slow, tx, made),
             Record::SlowEnd(slow) => self.keep_ended(slow),
             Record::Marks(durable, visible) => self.keep_marks(durable, visible),
+            Record::Format => self.keep_format(),
         }
     }
 

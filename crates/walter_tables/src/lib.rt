@@ -25,6 +25,7 @@ mod same;
 mod sends;
 mod sizes;
 mod tables;
+mod upgrading;
 mod versions;
 
 pub use leaving::update_of;

@@ -87,7 +87,7 @@ impl Tables {
                 self.slow.reserve(asked)?;
                 self.locks.reserve(count)
             }
-            Record::Boot(_) | Record::SlowEnd(_) | Record::Marks(_, _) => Ok(()),
+            Record::Boot(_) | Record::SlowEnd(_) | Record::Marks(_, _) | Record::Format => Ok(()),
         }
     }
 

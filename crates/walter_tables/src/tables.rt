@@ -9,7 +9,7 @@ ghost use Rattle.walter_tables.specs.Parts.{is_free};
 ghost use Rattle.walter_tables.specs.Props.{props};
 
 use std::alloc::Global;
-use walter_base::{Catalog, Mem, SiteId, Updates};
+use walter_base::{Catalog, Format, Mem, SiteId, Updates};
 use walter_cset::Totals;
 use walter_durable::Durable;
 use walter_history::History;
@@ -28,6 +28,8 @@ pub struct Tables {
     pub(crate) site: SiteId,
     pub(crate) epoch: u32,
     pub(crate) starts: u64,
+    // What the records tell: the second behind the record that says so.
+    pub(crate) format: Format,
     pub(crate) log: Log,
     pub(crate) history: History,
     pub(crate) totals: Totals,
@@ -81,6 +83,7 @@ impl Tables {
             site,
             epoch: 0,
             starts: 0,
+            format: Format::First,
             log,
             history: History::new(alloc, sites),
             totals: Totals::new(alloc),
@@ -98,6 +101,14 @@ impl Tables {
         ensures { result ≡ (values_of self.now).epoch }
     {
         self.epoch
+    }
+
+    /// The format of records that those before tell: the second behind the record that says so, and else the first. The
+    /// one in force is the later one of this and the journal's.
+    pub fn format(&self) -> Format
+        ensures { result ≡ (values_of self.now).format }
+    {
+        self.format
     }
 
     /// The transactions of its clients.

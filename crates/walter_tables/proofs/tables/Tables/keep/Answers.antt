@@ -34,6 +34,10 @@ pub returns-in-SlowEnd-clause-stands : goal.returns-in-SlowEnd-clause-stands
 unfolding values_of site_of catalog_of
 returns-in-SlowEnd-clause-stands c = subst (λ rec. Follows c.args.self.now rec c.keep_ended.new.self) (sym c.in-SlowEnd.is) c.keep_ended.ensures.stands
 
+pub returns-in-Format-clause-stands : goal.returns-in-Format-clause-stands
+unfolding values_of site_of catalog_of
+returns-in-Format-clause-stands c = subst (λ rec. Follows c.args.self.now rec c.keep_format.new.self) (sym c.in-Format.is) c.keep_format.ensures.stands
+
 pub returns-in-Marks-clause-stands : goal.returns-in-Marks-clause-stands
 unfolding values_of site_of catalog_of
 returns-in-Marks-clause-stands c = subst (λ rec. Follows c.args.self.now rec c.keep_marks.new.self) (sym c.in-Marks.is) c.keep_marks.ensures.stands

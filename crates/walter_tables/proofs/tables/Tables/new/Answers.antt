@@ -16,4 +16,4 @@ pub returns-clause-stands : goal.returns-clause-stands
 unfolding values_of site_of catalog_of
 returns-clause-stands c = fresh_stands _ c.in_ok-log.ensures.log c.new-3.ensures c.new-4.ensures c.new-5.ensures c.new-durable.ensures
     c.in_ok-locks.ensures.parts c.in_ok-locks.ensures.owners c.new-6.ensures.last c.new-6.ensures.none c.new-7.ensures
-    refl refl
+    refl refl refl
