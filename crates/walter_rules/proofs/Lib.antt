@@ -7,3 +7,4 @@ pub mod CallsAllowed
 pub mod DeliveriesAllowed
 pub mod RulesAllowed
 pub mod Staying
+pub mod Placed

@@ -34,6 +34,11 @@ abbrev pub placed : Format → List Record → List Placed
 placed format [] = []
 placed format (rec ∷ records) = (format, rec) ∷ placed (format_behind rec format) records
 
+-- the format in force behind records, where this one is in force in front of them
+abbrev pub format_at : Format → List Record → Format
+format_at format [] = format
+format_at format (rec ∷ records) = format_at (format_behind rec format) records
+
 -- how many bytes a record needs in a journal: a gate and a length stand with it
 abbrev pub need_of : Format → Record → ℕ
 need_of format rec = 5 + size_of_record format rec

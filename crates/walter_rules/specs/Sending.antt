@@ -6,7 +6,6 @@ use Rattle.walter_base.specs.declared.packet.Packet.{Packet}
 use Rattle.walter_base.specs.declared.packet.Packet.TheVariants.{Propagate, Ack, Dsmark, Visible, Prepare, Release}
 use Rattle.walter_base.specs.declared.transaction.Tx.{Tx}
 use Rattle.walter_base.specs.Names.{same_site}
-use Rattle.walter_rules.specs.declared.held.TheConstants.{WINDOW}
 use Rattle.walter_rules.specs.Knowledge.{Knowledge, peers, from_to}
 use Rattle.walter_rules.specs.Log.{commit_at}
 use Rattle.walter_rules.specs.Marks.{durable_mark}
@@ -17,8 +16,9 @@ use Rattle.walter_rules.specs.Slow.{Slow, Unused, Undecided, Dropped, Decided, h
 abbrev pub Send : Type 0
 Send = SiteId × Packet
 
+-- how many own commits above what a peer has acknowledged are sent to it
 abbrev pub window : ℕ
-window = WINDOW
+window = 64
 
 -- to each of these sites, in order
 abbrev pub to_each : List SiteId → (SiteId → List Packet) → List Send
