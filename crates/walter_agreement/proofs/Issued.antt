@@ -31,13 +31,6 @@ issued_by_start held x h = elim h [
   | inr here ↦ inr (here.0, let l = here.1 in omega (arith, l))
 ]
 
-pub issued_by_epoch : (held : Issued) (epoch : ℕ) (x : Tid) → held.epoch < epoch → IsIssued held x
-    → IsIssued (in_epoch epoch) x
-issued_by_epoch held epoch x later h = elim h [
-  | inl over ↦ inl (omega (arith, over, later))
-  | inr here ↦ inl (let e = here.0 in omega (arith, e, later))
-]
-
 -- the next one wasn't started yet, and is then
 pub next_not_issued : (i : SiteId) (held : Issued) → ¬ IsIssued held (next_tid i held)
 next_not_issued i held h = elim h [
