@@ -16,10 +16,6 @@ IsIssued held x = (x.epoch < held.epoch) ⊎ ((x.epoch ≡ held.epoch) × (x.num
 abbrev pub with_start : Issued → Issued
 with_start held = record { epoch = held.epoch; starts = held.starts + 1 }
 
--- an epoch begins
-abbrev pub in_epoch : ℕ → Issued
-in_epoch epoch = record { epoch = epoch; starts = 0 }
-
 -- the transaction that is started next
 abbrev pub next_tid : SiteId → Issued → Tid
 next_tid i held = record { site = i; epoch = held.epoch; number = held.starts + 1 }
