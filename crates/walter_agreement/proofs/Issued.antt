@@ -16,10 +16,6 @@ IsIssued held x = (x.epoch < held.epoch) ⊎ ((x.epoch ≡ held.epoch) × (x.num
 abbrev pub with_start : Issued → Issued
 with_start held = record { epoch = held.epoch; starts = held.starts + 1 }
 
--- an epoch begins
-abbrev pub in_epoch : ℕ → Issued
-in_epoch epoch = record { epoch = epoch; starts = 0 }
-
 -- the transaction that is started next
 abbrev pub next_tid : SiteId → Issued → Tid
 next_tid i held = record { site = i; epoch = held.epoch; number = held.starts + 1 }
@@ -29,13 +25,6 @@ pub issued_by_start : (held : Issued) (x : Tid) → IsIssued held x → IsIssued
 issued_by_start held x h = elim h [
   | inl over ↦ inl over
   | inr here ↦ inr (here.0, let l = here.1 in omega (arith, l))
-]
-
-pub issued_by_epoch : (held : Issued) (epoch : ℕ) (x : Tid) → held.epoch < epoch → IsIssued held x
-    → IsIssued (in_epoch epoch) x
-issued_by_epoch held epoch x later h = elim h [
-  | inl over ↦ inl (omega (arith, over, later))
-  | inr here ↦ inl (let e = here.0 in omega (arith, e, later))
 ]
 
 -- the next one wasn't started yet, and is then

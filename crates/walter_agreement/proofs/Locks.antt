@@ -21,10 +21,6 @@ IsTrueLock preferred p g t objs = (x : Tx) × (begun g ≡ Some x) × (t ≡ x.t
 abbrev pub IsHeld : Part → ObjId → Type 0
 IsHeld part oid = (t : Tid) × (objs : List ObjId) × (part ≡ Locked t objs) × Contains objs oid
 
--- the object is of the transaction's, and preferred at site p
-abbrev pub WritesAt : (ObjId → SiteId) → SiteId → Tx → ObjId → Type 0
-WritesAt preferred p x oid = Contains (write_set x.updates) oid × (preferred oid ≡ p)
-
 -- of site k's own commits `owns k`, site p's commits in order `known p`, how many of site k's commits are committed
 -- at p `counts p k`, site j's slow commits `slows j`, and what site p has of slow commit n of j `locks p j n`
 pub record AreLocked (preferred : ObjId → SiteId) (owns known : SiteId → List Held) (counts : SiteId → SiteId → ℕ)

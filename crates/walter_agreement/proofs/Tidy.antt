@@ -269,20 +269,3 @@ module _ (i : SiteId) (sess : ℕ → Option Session) (slows : ℕ → Slow) (pe
               ∙ subst (λ k. slows2 k ≡ Decided y) new d in cc)
         ];
       }
-
--- by equal parts
-pub same_tidy : (i : SiteId) (sess sess2 : ℕ → Option Session) (slows slows2 : ℕ → Slow) (pend pend2 : Option Record)
-    (up up2 : Bool) (last last2 : ℕ) (numbers numbers2 : Issued) (owned owned2 : List Held)
-    → ((c : ℕ) → sess c ≡ sess2 c) → ((n : ℕ) → slows n ≡ slows2 n) → pend ≡ pend2 → up ≡ up2 → last ≡ last2
-    → numbers ≡ numbers2 → owned ≡ owned2
-    → IsTidy i sess slows pend up last numbers owned → IsTidy i sess2 slows2 pend2 up2 last2 numbers2 owned2
-same_tidy i sess sess2 slows slows2 pend pend2 up up2 last last2 numbers numbers2 owned owned2 a b c d e f g T =
-    let ea : sess ≡ sess2 = (λ t k. a k t) in
-    let eb : slows ≡ slows2 = (λ t k. b k t) in
-    subst (λ z. IsTidy i sess2 slows2 pend2 up2 last2 numbers2 z) g
-    (subst (λ z. IsTidy i sess2 slows2 pend2 up2 last2 z owned) f
-    (subst (λ z. IsTidy i sess2 slows2 pend2 up2 z numbers owned) e
-    (subst (λ z. IsTidy i sess2 slows2 pend2 z last numbers owned) d
-    (subst (λ z. IsTidy i sess2 slows2 z up last numbers owned) c
-    (subst (λ z. IsTidy i sess2 z pend up last numbers owned) eb
-    (subst (λ z. IsTidy i z slows pend up last numbers owned) ea T))))))

@@ -1,3 +1,4 @@
+//! Laws of a right trail: what a restart keeps, what a site that is up promises, and what a client is owed.
 ghost use Rattle.std.specs.Prelude.{ℕ, List, ◌<◌};
 ghost use Rattle.walter_base.specs.declared.catalog.Catalog.{Catalog};
 ghost use Rattle.walter_base.specs.declared.names.ObjId.{ObjId};

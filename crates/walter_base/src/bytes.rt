@@ -1,3 +1,4 @@
+//! Bytes with one owner: a copy of them takes memory.
 ghost use Rattle.std.specs.Prelude.{◌≡◌, ℕ, List, IfOk};
 
 use std::alloc::{AllocError, Global};

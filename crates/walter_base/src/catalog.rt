@@ -1,3 +1,4 @@
+//! The catalog: how many sites there are, how many of them may be lost, and the containers.
 ghost use Rattle.std.specs.Prelude.{◌≡◌, ◌<◌, ◌≤◌, ℕ, Some, OnOk, IfOk, IfErr, option_map};
 ghost use Rattle.std.specs.FinMap as map;
 ghost use Rattle.walter_base.specs.Catalogs.{containers_of, AreRight, IsBuildFault};

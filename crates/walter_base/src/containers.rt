@@ -1,3 +1,4 @@
+//! The containers of a catalog, by their numbers.
 ghost use Rattle.std.specs.Prelude.{◌≡◌, OnOk, OnErr};
 ghost use Rattle.std.specs.FinMap as map;
 
@@ -42,6 +43,7 @@ impl Containers {
         }
     }
 
+    /// What is declared of the container; none where no container has the number.
     pub fn get(&self, number: u32) -> Option<Container>
         ensures { result ≡ map.get self.now number }
     {

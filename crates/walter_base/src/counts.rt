@@ -1,3 +1,4 @@
+//! The ids of a set that counts, each with its count.
 use std::alloc::AllocError;
 use std::marker::Model;
 

@@ -1,3 +1,5 @@
+//! The two formats in which a journal spells transactions.
+
 /// How transactions are spelled in a journal: by which vector.
 #[derive(Clone, Copy, Debug, PartialEq, Eq)]
 pub enum Format {

@@ -1,3 +1,4 @@
+//! Laws of these values.
 ghost use Rattle.std.specs.Prelude.{◌≡◌, ℕ, ℤ, List};
 ghost use Rattle.walter_base.specs.declared.names.ObjId.{ObjId};
 ghost use Rattle.walter_base.specs.declared.update.Update.{Update};

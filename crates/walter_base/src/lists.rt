@@ -1,3 +1,4 @@
+//! Objects and sites, in some order.
 ghost use Rattle.std.specs.Prelude.{◌≡◌};
 
 use crate::names::{ObjId, SiteId};

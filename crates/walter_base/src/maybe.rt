@@ -1,3 +1,4 @@
+//! Records on the heap: one or none, and a place that is taken before its record is known.
 ghost use Rattle.std.specs.Prelude.{◌≡◌, Some, None, IfSome, IfNone, IfOk};
 
 use crate::memory::Mem;
@@ -22,6 +23,7 @@ impl Model for MaybeRecord {
 }
 
 impl MaybeRecord {
+    /// No record, for which nothing lies on the heap.
     pub fn none() -> MaybeRecord
         ensures { result ≡ None }
     {
@@ -47,6 +49,7 @@ impl MaybeRecord {
         }
     }
 
+    /// The record, where it lies.
     pub fn as_ref(&self) -> Option<&Record>
         ensures some { IfSome result (λ rec. self.now ≡ Some rec.now) }
         ensures none { IfNone result (self.now ≡ None) }

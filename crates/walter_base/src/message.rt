@@ -1,3 +1,4 @@
+//! What clients ask, what they are answered, and what sites journal.
 ghost use Rattle.std.specs.Prelude.{◌≡◌};
 
 use crate::counts::Counts;

@@ -1,3 +1,5 @@
+//! The names of sites, objects, transactions and commits, and the two kinds of containers.
+
 /// A site, by its number from 0.
 #[derive(Clone, Copy, Debug, PartialEq, Eq, PartialOrd, Ord, Hash)]
 pub struct SiteId(pub u8);

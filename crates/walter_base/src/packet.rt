@@ -1,3 +1,4 @@
+//! What sites say to each other: the packets, and what a site puts out at once.
 ghost use Rattle.std.specs.Prelude.{◌≡◌};
 ghost use Rattle.walter_base.specs.Sending.{kind_of, number_of};
 
@@ -116,6 +117,7 @@ impl Sends {
         &self.items
     }
 
+    /// The packets, which stay where they are.
     pub fn into_vec(self) -> Vec<(SiteId, Packet)>
         ensures { result.items ≡ self }
     {

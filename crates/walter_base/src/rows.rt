@@ -1,3 +1,4 @@
+//! What may be asked of the objects of a site: a trait.
 ghost use Rattle.std.specs.Prelude.{◌≡◌, ℕ, List, Option, Some, None, OnOk, IfErr};
 ghost use Rattle.walter_base.specs.declared.names.ObjId.{ObjId as Object};
 ghost use Rattle.walter_base.specs.declared.names.Tid.{Tid as Name};

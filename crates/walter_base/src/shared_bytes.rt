@@ -1,3 +1,4 @@
+//! Bytes with many owners, on the heap once.
 ghost use Rattle.std.specs.Prelude.{◌≡◌, length, IfOk};
 ghost use Rattle.std.specs.Arc.{arc_slice_items};
 

@@ -1,3 +1,4 @@
+//! The vector that a transaction reads at, on the heap once for all its owners.
 ghost use Rattle.std.specs.Prelude.{◌≡◌, ◌≤◌, ◌<◌, ◌^◌, length, All, IfOk};
 ghost use Rattle.walter_base.specs.Vectors.{most_sites};
 
@@ -34,6 +35,7 @@ impl Snapshot {
         })
     }
 
+    /// A copy of the vector, off the heap.
     pub fn vector(&self) -> Vts
         ensures { result ≡ self.now }
     {

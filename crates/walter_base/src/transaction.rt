@@ -1,3 +1,4 @@
+//! Transactions that have updates, what stands in the way of their commits, and why they are aborted.
 ghost use Rattle.std.specs.Prelude.{◌≡◌, ◌<◌, ◌^◌};
 ghost use Rattle.walter_base.specs.Sizes.{size_of};
 

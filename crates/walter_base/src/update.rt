@@ -1,3 +1,4 @@
+//! The updates of a transaction, with the count of bytes that spell them, and the rows that a site keeps.
 ghost use Rattle.std.specs.Prelude.{◌≡◌, ◌<◌, ◌^◌, IfOk};
 ghost use Rattle.walter_base.specs.Sizes.{size_of_update, size_of_updates};
 ghost use Rattle.walter_base.specs.Values.{object_of};
@@ -78,6 +79,7 @@ impl Model for Updates {
 }
 
 impl Updates {
+    /// The updates of the vector, which stay where they are.
     pub fn from_vec(items: Vec<Update>) -> Result<Updates, AllocError>
         ensures { IfOk result (λ u. u ≡ items.items) }
     {

@@ -1,3 +1,4 @@
+//! Vectors: how many commits of each site are meant.
 ghost use Rattle.std.specs.Prelude.{◌≡◌, ◌<◌, ◌≤◌, ◌↔◌, IsTrue, ℕ, max, replicate, length, slice_set};
 ghost use Rattle.walter_base.specs.Vectors.{most_sites, entry_at, IsSeenBy, Covers, NoneFrom};
 

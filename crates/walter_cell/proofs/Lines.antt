@@ -27,7 +27,7 @@ use Rattle.walter_rules.specs.declared.event.Event.{Event}
 use Rattle.walter_rules.specs.declared.event.Event.TheVariants.{Given}
 use Rattle.walter_rules.specs.declared.event.Input.TheVariants.{Call as CallInput}
 use Rattle.walter_trail.specs.Calls.{call_by, calls_of}
-use Rattle.walter_cell.specs.Lines.{Sent, LineValue, CanFail, HasFault, line_of, IsLine, IsUnbroken, Leaves}
+use Rattle.walter_cell.specs.Lines.{Sent, LineValue, CanFail, HasFault, line_of, IsLine, Leaves}
 
 -- a connection from which a call was taken isn't broken
 pub not_broken : (old new : Incoming) (call : Call) → TakesCall old new call → new.state ≢ state.Broken
@@ -42,11 +42,6 @@ not_ended : (old new : Incoming) → IsEnded old new → new.state ≢ state.Bro
 not_ended old new over is =
     let same = ap (λ (x : Incoming). x.state) over.same in
     elim over.cause [ inl closed ↦ absurd cc | inr open_ ↦ let was = open_.0 in absurd cc ]
-
-pub next_ready : (old new : Incoming) (next : Next) → Answers old new next → IsUnbroken new next
-next_ready old new (Frame call) takes = not_broken old new call takes
-next_ready old new Ended over = tt
-next_ready old new Broken breaks = tt
 
 module _ (bytes : List ℕ) (calls : List Call) (old new : LineValue)
     (is : IsLine bytes calls old) where

@@ -3,7 +3,7 @@ use Rattle.std.proofs.Common.{◌≡◌, ◌≢◌, ◌<◌, ℕ, List, [], leng
 use Rattle.std.specs.Prelude.{zero, suc, ◌≤◌, ◌+◌, ◌-◌, ◌⊎◌, ◌↔◌, Result, Ok, Err, OnOk, OnErr, Option, Some, None, IsNone, IfSome, option_map, slice_get}
 use Rattle.std.proofs.lemmas.Option.{slice_get_past}
 use Rattle.std.proofs.lemmas.Bool.{cases_eq}
-use Rattle.std.proofs.lemmas.List.{append-nil, append_assoc, length-append, length-set, set-get_or}
+use Rattle.std.proofs.lemmas.List.{append-nil, append_assoc, length-append, length-set}
 use mathlib.Core.List.{IsPrefix}
 use Rattle.walter_base.specs.declared.names.SiteId.{SiteId}
 use Rattle.walter_lane.specs.Lanes.{Sending, Receiving}
@@ -16,10 +16,6 @@ use Rattle.walter_rules.specs.Merges.{put_out_to}
 use Rattle.walter_disk.specs.declared.disk.Disk.{Ghosts}
 use Rattle.walter_cell.specs.Cells.{CellValue, IsCell, arrival}
 use Rattle.walter_cell.specs.Nodes.{NodeValue, IsSound}
-
--- a list into which its own element was written
-pub set_back : {X : Type 0} (xs : List X) (k : ℕ) (x y : X) → x ≡ get_or xs k x → y ≡ x → slice_set xs k y ≡ xs
-set_back xs k x y at same = ap (λ z. slice_set xs k z) (same ∙ at) ∙ set-get_or xs k x
 
 pub on_ok : {X E : Type 0} (r : Result X E) (P Q : Type 0) → (P → Q) → OnOk r P → OnOk r Q
 on_ok (Ok x) P Q by holds = by holds

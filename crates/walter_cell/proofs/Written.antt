@@ -38,11 +38,6 @@ behind_bytes : (old new : Option (List ℕ)) (bytes : List ℕ) (P Q : List ℕ 
 behind_bytes None new bytes P Q is by holds = subst (λ (o : Option (List ℕ)). IfSome o Q) (sym is) tt
 behind_bytes (Some held) new bytes P Q is by holds = subst (λ (o : Option (List ℕ)). IfSome o Q) (sym is) (by held holds)
 
--- nothing is put behind what a sink held
-pub appends_none : (held : Option (List ℕ)) → Appends held held []
-appends_none None = refl
-appends_none (Some held) = ap (λ (l : List ℕ). Some l) (sym (append-nil held))
-
 -- the entry that came stands last
 pub last_there : (entries more : List Entry) (e : Entry) → more ≡ entries ++ e ∷ []
     → slice_get more (length more - 1) ≡ Some e

@@ -1,3 +1,5 @@
+//! What the calls of a cell come to.
+
 /// What a client's turn came to.
 #[derive(Clone, Copy, Debug, PartialEq, Eq)]
 pub enum Serve {

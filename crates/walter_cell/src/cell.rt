@@ -1,3 +1,4 @@
+//! A cell: a site over its disk, with its trail, its lanes and the connections of its clients.
 ghost use Rattle.std.specs.Prelude.{◌≡◌, ◌≢◌, ◌<◌, ◌≤◌, ◌++◌, ◌∷◌, ◌+◌, ◌↔◌, [], ℕ, List, Option, true};
 ghost use Rattle.std.specs.Prelude.{is_ok, IsOk, if◌then◌else◌, length, map, max, option_map, Some, OnErr, OnOk, IfOk, IsTrue};
 ghost use mathlib.Core.List.{IsPrefix};

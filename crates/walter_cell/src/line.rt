@@ -1,3 +1,4 @@
+//! The connection of a client, as its site has it.
 ghost use Rattle.std.specs.Prelude.{◌≡◌, ◌≢◌, ℕ, List, OnErr, OnOk, IfOk};
 ghost use Rattle.std.specs.List.{concat};
 ghost use Rattle.walter_conn.specs.Calls.{Answers};

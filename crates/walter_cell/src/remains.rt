@@ -1,3 +1,4 @@
+//! What is left of a cell beside its disk and its trail.
 ghost use Rattle.std.specs.Prelude.{◌≡◌};
 
 use crate::line::Line;

@@ -1,12 +1,12 @@
 -- What is read as an entry was spelled so, and where none is read there is none.
-use Rattle.std.proofs.Common.{◌≡◌, ◌≢◌, ⊎_elim, ◌+◌, ◌-◌, ◌<◌, ◌≤◌, ℕ, zero, suc, Bool, true, false, List, [], ◌∷◌, ◌++◌, length, take, drop, get_or, replicate, if◌then◌else◌, All, refl, sym, ap, subst, ◌∙◌, arith, append_assoc, length-append, take-append-drop}
+use Rattle.std.proofs.Common.{◌≡◌, ⊎_elim, ◌+◌, ◌-◌, ◌<◌, ◌≤◌, ℕ, zero, suc, Bool, true, false, List, [], ◌∷◌, ◌++◌, length, take, drop, get_or, replicate, if◌then◌else◌, All, refl, sym, ap, subst, ◌∙◌, arith, append_assoc, length-append, take-append-drop}
 use Rattle.std.proofs.lemmas.Bool.{true≢false, lt-ltb, le-ltb}
 use Rattle.std.proofs.lemmas.Bool.Decides.{eqb_tells}
 use Rattle.std.proofs.lemmas.Grind.{flat_map-append}
 use Rattle.std.proofs.lemmas.List.{take_at, drop_at, drop_more, take_all, length-take, length-drop, length-replicate, take-replicate, get_or-take, get_or_append_left, append-nil}
 use Rattle.std.proofs.lemmas.List.Elements.{recursion_from_All}
 use Rattle.std.specs.List.{AllByRecursion}
-use Rattle.std.specs.Option.{IfSome, IfNone}
+use Rattle.std.specs.Option.{IfNone}
 use Rattle.std.specs.Prelude.{◌==◌, nat_lt, Option, Some, None, Result, Ok, Err, IfOk}
 use Rattle.walter_journal.specs.Layout.{record_of, IsShort, ClaimsTooMuch}
 use Rattle.walter_journal.proofs.Layouts.{same_record, damage_ends}
@@ -121,12 +121,6 @@ no_entry sites mark spelled rest short_spelled none body next short more e = by 
         none body short (entry_is sites body false is ∙ ap (λ l. 0 ∷ record_of l) (sym same.0) ∙ ap (λ n. n ∷ record_of spelled) (sym (ap (λ l. get_or l 0 0) e)))
 
 -- what is spelled behind each mark
-pub whole_so : (sites : ℕ) (found spelled : List ℕ) → IsShort spelled → (found ≡ spelled) × (is_cut sites spelled ≡ false) → IsShort found × (entry_of sites found ≡ 0 ∷ record_of spelled)
-whole_so sites found spelled short is = (subst (λ l. IsShort l) (sym is.0) short, ap (entry_of sites) is.0 ∙ entry_is sites spelled false is.1)
-
-pub cut_so : (sites : ℕ) (body spelled : List ℕ) → IsShort body × (is_cut sites body ≡ true) × (cut sites body ≡ spelled) → IsShort body × (entry_of sites body ≡ 1 ∷ record_of spelled)
-cut_so sites body spelled is = (is.0, entry_is sites body true is.1 ∙ ap (λ l. 1 ∷ record_of l) is.2)
-
 pub no_whole : (sites : ℕ) (spelled : List ℕ) → IsShort spelled → is_cut sites spelled ≡ true → HasNoBody sites 0 spelled
 no_whole sites spelled short_spelled is_so body short e = by (is_cut sites body) refl e
   where
@@ -145,19 +139,7 @@ no_restored sites spelled short_spelled none body short e = by (is_cut sites bod
         none body short is same.0
     by false is e = omega (arith, ap (λ l. get_or l 0 0) e)
 
-pub no_mark : (sites mark : ℕ) (spelled : List ℕ) → mark ≢ 0 → mark ≢ 1 → HasNoBody sites mark spelled
-no_mark sites mark spelled not_zero not_one body short e = by (is_cut sites body) e
-  where
-    by : (p : Bool) → (if p then 1 ∷ record_of (cut sites body) else 0 ∷ record_of body) ≡ mark ∷ record_of spelled → ⊥
-    by true e = not_one (sym (ap (λ l. get_or l 0 0) e))
-    by false e = not_zero (sym (ap (λ l. get_or l 0 0) e))
-
--- what is found, if it is
-pub if_some : {X E : Type 0} (P Q : X → Type 0) (result : Result (Option X) E) → ((x : X) → P x → Q x) → IfOk result (λ found. IfSome found P) → IfOk result (λ found. IfSome found Q)
-if_some P Q (Ok None) so is = tt
-if_some P Q (Ok (Some x)) so is = so x is
-if_some P Q (Err e) so is = tt
-
+-- what follows where none is found
 pub if_none : {X E P Q : Type 0} (result : Result (Option X) E) → (P → Q) → IfOk result (λ found. IfNone found P) → IfOk result (λ found. IfNone found Q)
 if_none (Ok None) so is = so is
 if_none (Ok (Some x)) so is = tt

@@ -1,6 +1,6 @@
 -- A pack is never longer than the gates and records that it stands for.
-use Rattle.std.proofs.Common.{◌≡◌, ◌+◌, ◌-◌, ◌<◌, ◌≤◌, ℕ, Bool, true, false, map, sym, append_assoc, List, [], ◌∷◌, ◌++◌, length, take, drop, get_or, if◌then◌else◌, ap, ◌∙◌, arith, length-append}
-use Rattle.std.proofs.lemmas.List.{length-take, length-drop, map_more, append-nil, take_all}
+use Rattle.std.proofs.Common.{◌≡◌, ◌+◌, ◌-◌, ◌≤◌, ℕ, Bool, true, false, sym, append_assoc, List, [], ◌∷◌, ◌++◌, length, take, drop, get_or, if◌then◌else◌, ap, ◌∙◌, arith, length-append}
+use Rattle.std.proofs.lemmas.List.{length-take, length-drop, take_all}
 use Rattle.std.proofs.lemmas.List.Sums.{sum_by-cons}
 use Rattle.std.proofs.lemmas.Grind.{flat_map-append}
 use Rattle.std.specs.Prelude.{sum_by}
@@ -51,13 +51,6 @@ entry_cut sites old body size from end is from_is end_is le within size_is =
     ∙ append_assoc (old ++ 1 ∷ []) size (take from body ++ drop end body)
     ∙ append_assoc old (1 ∷ []) (size ++ (take from body ++ drop end body))
     ∙ ap (λ l. old ++ l) (sym (entry ∙ spelled))
-
--- one more of a list of bodies
-pub entries_more : {X : Type 0} (items : X → List ℕ) (sites : ℕ) (bodies : List X) (n : ℕ) (d : X) → n < length bodies
-    → entries sites (map items (take (n + 1) bodies)) ≡ entries sites (map items (take n bodies)) ++ entry_of sites (items (get_or bodies n d))
-entries_more items sites bodies n d lt =
-    ap (λ l. entries sites l) (map_more items bodies n d lt) ∙ flat_map-append (entry_of sites) (map items (take n bodies)) (items (get_or bodies n d) ∷ [])
-    ∙ ap (λ l. entries sites (map items (take n bodies)) ++ l) (append-nil (entry_of sites (items (get_or bodies n d))))
 
 -- step by step
 pub entry_pushed : (sites : ℕ) (old body size : List ℕ) (from end : ℕ) (a b c d : List ℕ) → a ≡ old ++ 1 ∷ [] → b ≡ a ++ size → c ≡ b ++ take from body → d ≡ c ++ take (length body - end) (drop end body)

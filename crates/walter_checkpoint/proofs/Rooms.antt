@@ -1,5 +1,5 @@
 -- A book that has taken memory alone is the same.
-use Rattle.std.proofs.Common.{◌≡◌, ◌≢◌, inl, ◌+◌, ℕ, List, length, refl, ◌∙◌, arith}
+use Rattle.std.proofs.Common.{◌≡◌, ◌≢◌, ◌+◌, ℕ, List, length, refl, ◌∙◌}
 use Rattle.std.specs.Prelude.{Result, Ok, Err, OnOk}
 use Rattle.walter_disk.specs.Images.{Narrows, LeavesOnly}
 use Rattle.walter_disk.specs.declared.disk.Disk.{Ghosts}
@@ -59,23 +59,6 @@ same_twice {g = g} old mid new first second = record {
   ready = λ bodies ready. second.ready bodies (first.ready bodies ready);
   crash = λ image is. first.crash image (second.crash image is);
   any_moment = joined g.moment g.left_since (disk_of old) (disk_of mid) (disk_of new) (g.may_leave (disk_of old)) first.any_moment (weaker g.moment g.left_since (disk_of mid) (disk_of new) _ _ first.crash second.any_moment);
-}
-
--- and one of which nothing was asked
-pub same_untouched : {D : Type 0} {g : Ghosts D} (book : Book D g) → ((image : List ℕ) → g.left_since (disk_of book) (g.moment (disk_of book)) image → g.may_leave (disk_of book) image) → IsSameBook book book
-same_untouched {g = g} book only_now = record {
-  shape = refl;
-  live = refl;
-  end = refl;
-  limit = refl;
-  renewal = refl;
-  device = refl;
-  with = λ packed behind stands. stands;
-  stands = λ bodies stands. stands;
-  goes_on = λ packed behind goes. goes;
-  ready = λ bodies ready. ready;
-  crash = λ image is. is;
-  any_moment = record { later = omega arith; each = only_now; before = λ t image le left. inl left };
 }
 
 -- what follows where it answers Ok

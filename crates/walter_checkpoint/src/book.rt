@@ -1,3 +1,4 @@
+//! A book on a disk: bodies are appended to its live area, and packed into the other.
 ghost use Rattle.std.specs.Prelude.{◌≡◌, ◌≢◌, ◌^◌, ◌+◌, ◌≤◌, ◌-◌, ◌/◌, ◌++◌, ◌∷◌, ℕ, List, length, option_map, is_some, is_err, true, false, [], min, ◌<◌, Err, OnOk, OnErr};
 ghost use Rattle.walter_disk.specs.Disks.{written, Fails, TakesRoom};
 ghost use Rattle.walter_disk.specs.Images.{IsDurable, LeavesOnly};

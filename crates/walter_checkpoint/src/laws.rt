@@ -1,3 +1,4 @@
+//! Laws of books and of packs.
 ghost use Rattle.std.specs.Prelude.{◌≡◌, ◌+◌, ◌^◌, ◌<◌, ◌≤◌, ℕ, List, length, take};
 ghost use Rattle.walter_disk.specs.Disks.{laid};
 ghost use Rattle.walter_disk.specs.Images.{Torn};

@@ -1,3 +1,4 @@
+//! Loads the book of a disk, and begins one on a disk of no bytes.
 ghost use Rattle.std.specs.Prelude.{◌≡◌, ◌≢◌, ◌+◌, ◌-◌, ◌/◌, ◌<◌, ◌≤◌, ◌++◌, ◌∷◌, [], ℕ, length, is_some, false, IsSome, IfSome, IfOk, IfErr, OnOk};
 ghost use Rattle.walter_disk.specs.Images.{Only, Narrows, IsDurable, IsImage, LeavesOnly};
 ghost use Rattle.walter_journal.specs.Faults.{IsDiskFault};

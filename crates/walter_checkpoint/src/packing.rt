@@ -1,3 +1,4 @@
+//! Makes a pack of bodies, without zeros that its reader puts back.
 ghost use Rattle.std.specs.Prelude.{◌≡◌, ◌≤◌, ◌++◌, ◌∷◌, [], ℕ, List, length, map, get_or, true, false, All, IfSome, IfNone, IfOk, OnOk};
 ghost use Rattle.walter_journal.specs.Layout.{IsShort};
 ghost use Rattle.walter_checkpoint.specs.Packs.{are_zeros, is_cut, kept_in, start_end, cut, entry_of, entries, renewed_by};

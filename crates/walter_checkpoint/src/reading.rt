@@ -1,3 +1,4 @@
+//! Reads the bytes of a book: which part of them is live, and which bodies stand there.
 ghost use Rattle.std.specs.Prelude.{◌≡◌, ◌≢◌, ◌^◌, ◌<◌, ◌≤◌, length, take, drop, IfOk, IfErr};
 ghost use Rattle.walter_checkpoint.specs.Areas.{header_of_two, shape_by};
 ghost use Rattle.walter_checkpoint.specs.Books.{IsLivePart, IsAreaRead, IsRead};

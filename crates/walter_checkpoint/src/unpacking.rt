@@ -1,3 +1,4 @@
+//! Reads the bodies of a pack, and puts back the zeros that it leaves out.
 ghost use Rattle.std.specs.Prelude.{◌≡◌, ◌≢◌, ◌+◌, ◌<◌, ◌≤◌, ◌++◌, ◌∷◌, ℕ, List, length, take, drop, true, false, All, IfOk, IfErr};
 ghost use Rattle.std.specs.Option.{IfSome, IfNone};
 ghost use Rattle.walter_journal.specs.Layout.{record_of, IsShort};

@@ -1,6 +1,6 @@
 -- What of a rack's disks holds behind a call: they were taken, and given back or lost.
 use Rattle.std.proofs.Common.{◌≡◌, ℕ, ◌+◌, ◌≤◌, zero, suc, List, [], ◌∷◌, ◌++◌, length, slice_get, Option, Some, None, option_map, ap, sym, ◌∙◌, refl, subst, arith, inl, inr, ◌⊎◌}
-use Rattle.std.specs.Prelude.{Result, Ok, Err, OnOk, OnErr, IfSome, IsSome, Contains, true, false}
+use Rattle.std.specs.Prelude.{Result, Ok, Err, OnOk, IfSome, IsSome, Contains, false}
 use Rattle.std.specs.Result.{is_err}
 use Rattle.std.proofs.lemmas.Bool.{cases_lt}
 use Rattle.std.proofs.lemmas.List.{append-nil, length-append}
@@ -14,11 +14,7 @@ use Rattle.walter_cli.specs.Disks.{AreGiven, IsFirstLost}
 use Rattle.walter_cli.specs.Racks.{OfADisk, RackAt, Racked, IsMore, AreSo, AreFirst, AreGivenBack, AreHandedBack, bytes_of, numbered, racked, FailsToGive}
 use Rattle.walter_cli.proofs.Trails.{all_there}
 
--- what holds of a result that is Err, holds of one that is no Ok; and the other way round
-pub err_part : {T E : Type 0} (r : Result T E) (P : Type 0) → OnErr r P → is_err r ≡ true → P
-err_part (Ok x) P p is = absurd cc
-err_part (Err e) P p is = p
-
+-- what holds of a result that is Ok holds of one that is no Err
 pub ok_part : {T E : Type 0} (r : Result T E) (P : Type 0) → OnOk r P → is_err r ≡ false → P
 ok_part (Ok x) P p is = p
 ok_part (Err e) P p is = absurd cc

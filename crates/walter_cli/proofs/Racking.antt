@@ -235,14 +235,6 @@ module _ {D : Type 0} (g : Ghosts D) (a b c : RackAt D) where
         omega (arith, m, before, now));
   }
 
-pub on_ok : {X E : Type 0} (r : Result X E) (P Q : Type 0) → (P → Q) → OnOk r P → OnOk r Q
-on_ok (Ok x) P Q by holds = by holds
-on_ok (Err e) P Q by holds = tt
-
-pub on_err : {X E : Type 0} (r : Result X E) (P Q : Type 0) → (P → Q) → OnErr r P → OnErr r Q
-on_err (Ok x) P Q by holds = tt
-on_err (Err e) P Q by holds = by holds
-
 -- what is an Err is no Ok
 pub err_never : {X E : Type 0} (r : Result X E) (e : E) → r ≡ Err e → IsOk r → ⊥
 err_never (Ok x) e is ok = absurd cc

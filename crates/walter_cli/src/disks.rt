@@ -1,3 +1,4 @@
+//! The disks of a run: they are taken from a rack, and given back.
 ghost use Rattle.std.specs.Prelude.{◌≡◌, ◌<◌, ◌≤◌, ◌+◌, length, IfOk, IfErr, OnOk};
 ghost use Rattle.walter_base.specs.Vectors.{most_sites};
 ghost use Rattle.walter_cli.specs.Disks.{AreTaken, AreGiven, IsFirstLost, lost_after};

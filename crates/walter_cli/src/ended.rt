@@ -1,3 +1,4 @@
+//! How a call of the program ended.
 ghost use Rattle.std.specs.Prelude.{◌≡◌, [], Some};
 
 use std::alloc::Global;

@@ -1,3 +1,4 @@
+//! How a fault is told where the disks are files.
 use crate::ended::{Fault, JournalCause};
 use std::fs::{self, File, Files};
 use std::path::Path;

@@ -1,3 +1,4 @@
+//! The program on a host, over disks in memory or over files.
 ghost use Rattle.walter_cli.specs.Headline.{outside_at};
 ghost use Rattle.walter_cli.specs.Hosts.{EndsOnHost};
 

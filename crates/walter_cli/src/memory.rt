@@ -1,3 +1,4 @@
+//! The program over disks in memory.
 ghost use Rattle.std.specs.Prelude.{◌≡◌, List, String};
 ghost use Rattle.std.specs.Global.{Global};
 ghost use Rattle.walter_cli.specs.Assurance.{Assures, in_memory};

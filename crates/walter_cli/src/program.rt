@@ -1,3 +1,4 @@
+//! The program, by the words behind its name.
 ghost use Rattle.walter_cli.specs.Headline.{Promise, outside_at};
 ghost use Rattle.walter_cli.specs.Racks.{rack_at, racked};
 

@@ -1,3 +1,4 @@
+//! Runs a scenario over the disks of a rack, and writes what is to be said of it.
 ghost use Rattle.std.specs.Prelude.{◌≡◌, ◌≤◌, ◌<◌, ◌++◌, length, IfOk, OnOk, IfErr};
 ghost use Rattle.walter_base.specs.Vectors.{most_sites};
 ghost use Rattle.walter_cluster.specs.Benches.{AreAllConnected, AreMet, EachKeeps, IsOf, IsToldAt};

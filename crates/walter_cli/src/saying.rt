@@ -1,3 +1,4 @@
+//! Says a help or the version.
 ghost use Rattle.std.specs.Prelude.{◌≡◌, [], string_bytes};
 ghost use Rattle.walter_cli.specs.Ending.{EndsText};
 ghost use Rattle.walter_cli.specs.Statuses.{status_of};

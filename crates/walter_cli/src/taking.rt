@@ -1,3 +1,4 @@
+//! The scenario that a command runs: it is read, or made.
 ghost use Rattle.std.specs.Prelude.{◌≡◌, IfOk, IfErr};
 ghost use Rattle.walter_cli.specs.Ending.{IsPlayable, IsPoseFault, IsTakeFault};
 ghost use Rattle.walter_cli.specs.Sources.{IsTaken};

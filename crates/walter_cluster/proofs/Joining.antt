@@ -1,5 +1,5 @@
 -- The ends of lanes in rows and columns, a row at a time.
-use Rattle.std.proofs.Common.{◌≡◌, ℕ, zero, suc, ◌<◌, ◌≤◌, ◌+◌, ◌++◌, ◌∷◌, ◌⊎◌, List, [], Vec, length, get_or, set, map, ap, sym, ◌∙◌, subst, inl, inr, arith, refl, length-append}
+use Rattle.std.proofs.Common.{◌≡◌, ℕ, zero, suc, ◌<◌, ◌≤◌, ◌+◌, ◌++◌, ◌∷◌, ◌⊎◌, List, [], Vec, length, get_or, set, map, ap, sym, ◌∙◌, subst, inl, inr, arith, length-append}
 use Rattle.std.specs.declared.alloc.Global.{Global}
 use Rattle.std.proofs.lemmas.Bool.{cases_lt, cases_eq}
 use Rattle.std.proofs.lemmas.List.{get_or_append_left, get_or_at, get_or-map, get_or-set_same, get_or-set_other, length-set, length-map, map-append, map-set}
@@ -25,16 +25,6 @@ module _ {X Y : Type 0} (f : X → Y) (xs : List X) (x : X) (e : Y) where
 
   pub field_same : ((k : ℕ) → get_or (map f xs) k e ≡ e) → f x ≡ e → (k : ℕ) → get_or (map f (xs ++ x ∷ [])) k e ≡ e
   field_same all here k = ap (λ l. get_or l k e) (map-append f xs (x ∷ [])) ∙ each_more (λ y. y ≡ e) e (f x) (map f xs) all here k
-
-pub row_begins : (columns : List (List Receiving)) (row : List Sending) → row ≡ [] → AddsRow columns columns row 0
-row_begins columns row none = record {
-  columns_long = refl;
-  row_long = ap length none;
-  added = λ to below. absurd (omega (arith, below));
-  none_put = λ to. ap (λ r. put_to r to) none;
-  none_met = λ to. ap (λ r. met_to r to) none;
-  left = λ to past. refl;
-}
 
 module _ (before after : List (List Receiving)) (row : List Sending) (k : ℕ) (h : AddsRow before after row k) (s : Sending) (r : Receiving) (below : k < length before) where
   here : column_of (set after k (column_of after k ++ r ∷ [])) k ≡ column_of before k ++ r ∷ []
@@ -62,18 +52,6 @@ module _ (before after : List (List Receiving)) (row : List Sending) (k : ℕ) (
     none_met = field_same (λ (x : Sending). x.met) row s 0 h.none_met met;
     left = λ to past. elsewhere to (λ is. absurd (omega (arith, is, past))) ∙ h.left to (omega (arith, past));
   }
-
-pub joined_begins : (n : ℕ) (rows : List (List Sending)) (columns : List (List Receiving)) → rows ≡ [] → length columns ≡ n → ((to : ℕ) → column_of columns to ≡ []) → AreJoined 0 n rows columns
-joined_begins n rows columns none long empty = record {
-  rows_long = ap length none;
-  columns_long = long;
-  row_long = λ from lt. absurd (omega (arith, lt));
-  column_long = λ to lt. ap length (empty to);
-  joined = λ from to lt _. absurd (omega (arith, lt));
-  none_put = λ from to. ap (λ rs. put_to (row_of rs from) to) none;
-  none_met = λ from to. ap (λ rs. met_to (row_of rs from) to) none;
-  none_arrived = λ to from. ap (λ c. arrived_from c from) (empty to);
-}
 
 module _ (n m : ℕ) (rows : List (List Sending)) (before after : List (List Receiving)) (row : List Sending) (h : AreJoined m n rows before) (a : AddsRow before after row n) where
   row_at : row_of (rows ++ row ∷ []) m ≡ row

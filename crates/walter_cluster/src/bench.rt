@@ -1,3 +1,4 @@
+//! The cells of all sites, bare: clients get their turns, and events come to the sites.
 ghost use Rattle.std.specs.Prelude.{◌≡◌, ◌≢◌, ◌<◌, ℕ, List, length, slice_get, Some, true, IsOk, OnErr, OnOk, IfOk};
 ghost use Rattle.walter_base.specs.declared.names.SiteId.{SiteId};
 ghost use Rattle.walter_cell.specs.Cells.{CellValue};

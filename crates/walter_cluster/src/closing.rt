@@ -1,3 +1,4 @@
+//! Takes a bench apart, into trails, disks and connections.
 ghost use Rattle.std.specs.Prelude.{◌≡◌, ◌≢◌, ◌<◌, ◌≤◌, ℕ, length};
 ghost use Rattle.walter_base.specs.Vectors.{most_sites};
 ghost use Rattle.walter_rules.specs.Merges.{AreLinked};

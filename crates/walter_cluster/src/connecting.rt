@@ -1,3 +1,4 @@
+//! Lanes from each site to each.
 ghost use Rattle.std.specs.Prelude.{◌≡◌, ℕ, [], vec_len, IfOk};
 ghost use Rattle.walter_cluster.specs.Lanes.{AddsRow, AreJoined, column_of, rows_in, columns_in};
 

@@ -56,6 +56,7 @@ impl<N: Name, D: Disk + Drop, S: Source + Drop, K: Sink + Drop, const I: usize> 
         }
     }
 
+    /// The cell and the pump, which stand as the site's lock wants them.
     pub fn into_parts(self) -> (Cell<D, S, K>, Pump)
         ensures cell { result.0 ≡ self.cell }
         ensures pump { result.1 ≡ self.pump }

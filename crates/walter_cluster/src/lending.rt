@@ -1,3 +1,4 @@
+//! Two elements of a slice at once.
 ghost use Rattle.std.specs.Prelude.{◌≡◌, ◌≢◌, ◌<◌, length, set, get_or};
 ghost use Rattle.std.specs.Borrow.{sem, LendsBoth, Array};
 

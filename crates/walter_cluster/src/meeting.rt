@@ -1,3 +1,4 @@
+//! What the other sites have put out arrives at a site.
 ghost use Rattle.std.specs.Prelude.{◌≡◌, ◌≢◌, ◌<◌, ◌≤◌, ◌⊎◌, ℕ, length, OnOk};
 ghost use Rattle.walter_base.specs.Vectors.{most_sites};
 ghost use Rattle.walter_cluster.specs.Meetings.{HaveLanes, HaveAllMet, HaveStayed, HasArrived, IsAsBefore};

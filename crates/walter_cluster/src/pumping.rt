@@ -1,3 +1,4 @@
+//! The pumps of a scenario's sites.
 ghost use Rattle.std.specs.Prelude.{◌≡◌, IfOk};
 ghost use Rattle.walter_cluster.specs.Pumps.{new_pumps};
 

@@ -1,3 +1,4 @@
+//! Each site gets the connections of its clients.
 ghost use Rattle.std.specs.Prelude.{◌≡◌, ◌<◌, length, replicate, None, IfOk, All};
 ghost use Rattle.walter_scenario.specs.declared.scenario.Client.{Client};
 ghost use Rattle.walter_cluster.specs.Seats.{lists_in, HavePlaces, AreSeated, AreEmpty, AreAtHome};

@@ -1,5 +1,5 @@
 -- Bytes that are read behind those that are held.
-use Rattle.std.proofs.Common.{◌≡◌, ◌≢◌, ℕ, ◌+◌, ◌-◌, ◌<◌, ◌≤◌, List, [], ◌++◌, length, take, drop, replicate, Option, Some, None, option_map, refl, sym, ap, subst, ◌∙◌, inl, inr, append_assoc, append-nil, arith}
+use Rattle.std.proofs.Common.{◌≡◌, ℕ, ◌+◌, ◌-◌, ◌<◌, ◌≤◌, List, [], ◌++◌, length, take, drop, replicate, Option, Some, None, option_map, refl, sym, ap, subst, ◌∙◌, inr, append_assoc, append-nil, arith}
 use Rattle.std.proofs.Math.Seq.{take-add}
 use Rattle.std.proofs.lemmas.List.{length-append, length-take-le, length-drop, length-replicate, take-take, take-append-le, take_all, take_at, drop_at}
 use Rattle.walter_fields.specs.Spellings.{number_spelled}
@@ -41,21 +41,10 @@ pub unread_none : (left : Option (List ℕ)) (bytes : List ℕ) → option_map (
 unread_none None bytes = refl
 unread_none (Some left) bytes = refl
 
--- nothing is to come where nothing is held and the source is at its end
-pub AtEnd-unread : (left : Option (List ℕ)) (held : List ℕ) → held ≡ [] → AtEnd left → AtEnd (option_map (λ rest. held ++ rest) left)
-AtEnd-unread None held none end = tt
-AtEnd-unread (Some left) held none end = rw (none, end) refl
-
 -- what is held is all that is to come where the source is at its end
 pub EndsInFrame-unread : (left : Option (List ℕ)) (held : List ℕ) → IsBegun held → AtEnd left → EndsInFrame (option_map (λ rest. held ++ rest) left)
 EndsInFrame-unread None held begun end = tt
 EndsInFrame-unread (Some left) held begun end = subst IsBegun (sym (ap (λ rest. held ++ rest) end ∙ append-nil held)) begun
-
--- fewer than four bytes are no frame
-pub IsBegun-few : (h : ℕ) (bytes : List ℕ) → h ≢ 0 → h < 4 → h ≤ length bytes → IsBegun (take h bytes)
-IsBegun-few h bytes some few long =
-    let count : length (take h bytes) ≡ h = length-take-le h bytes long in
-    record { some = λ none. some (sym count ∙ ap length none); wanting = inl (omega arith) }
 
 -- the length, and what stands behind it
 split_frame : (k : ℕ) (bytes front : List ℕ) → take 4 bytes ≡ front → take (4 + k) bytes ≡ front ++ take k (drop 4 bytes)

@@ -1,3 +1,4 @@
+//! A connection with a client: frames of calls come in, and frames of replies go out.
 ghost use Rattle.std.specs.Prelude.{◌≡◌, ◌≢◌, ◌+◌, ◌≤◌, length, vec_len, vec_capacity};
 ghost use Rattle.std.specs.Prelude.{true, false, Ok, IfOk, IfErr, OnOk, OnErr};
 ghost use Rattle.walter_conn.specs.Calls.{fresh_incoming, Answers};

@@ -1,3 +1,4 @@
+//! The frames that come from a source, one at a time in one buffer.
 ghost use Rattle.std.specs.Prelude.{◌≡◌, ◌+◌, ◌-◌, ◌<◌, ◌≤◌, [], ◌++◌, take, replicate, vec_len, vec_capacity};
 ghost use Rattle.std.specs.Prelude.{true, false, Ok, OnOk, OnErr};
 ghost use Rattle.walter_fields.specs.Spellings.{number_spelled};

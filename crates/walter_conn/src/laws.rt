@@ -1,3 +1,4 @@
+//! Laws of connections: what the bytes of a client call for, and which of these calls were read.
 ghost use Rattle.std.specs.Prelude.{◌≡◌, ◌≢◌, ◌⊎◌, ◌++◌, ◌∷◌, ℕ, List, [], Some};
 ghost use Rattle.walter_conn.specs.Calls.{fresh_incoming, Incoming, TakesCall, IsEnded, IsBroken};
 ghost use Rattle.walter_conn.specs.Frames.{Call};

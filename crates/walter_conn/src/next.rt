@@ -1,3 +1,4 @@
+//! What a client sent, and the error of a connection that isn't used on.
 use thiserror::Error;
 use walter_base::Call;
 

@@ -1,3 +1,4 @@
+//! The frame of a reply.
 ghost use Rattle.std.specs.Prelude.{◌≡◌, ◌+◌, length};
 ghost use Rattle.walter_conn.specs.Frames.{frame};
 ghost use Rattle.walter_reply.specs.Replies.{reply_spelled, FitsFrame};

@@ -1,3 +1,4 @@
+//! What the body of a frame calls for.
 ghost use Rattle.std.specs.Prelude.{◌≤◌, length, IfOk, OnErr};
 ghost use Rattle.walter_conn.specs.Frames.{CallsFor};
 ghost use Rattle.walter_request.specs.Requests.{SpellsWrite};

@@ -1,3 +1,5 @@
+//! Whether a connection is used on.
+
 /// Whether a connection is used on.
 #[derive(Clone, Copy, Debug)]
 pub(crate) enum State {

@@ -1,5 +1,5 @@
 -- A count on its way from one vector to another.
-use Rattle.std.proofs.Common.{◌≡◌, ℕ, ◌+◌, ◌-◌, ◌*◌, ◌^◌, ◌≤◌, ◌<◌, Bool, true, false, cond, List, [], ◌∷◌, ◌++◌, length, take, get_or, map, filter, All, refl, ap, sym, ◌∙◌, arith}
+use Rattle.std.proofs.Common.{◌≡◌, ℕ, ◌+◌, ◌-◌, ◌*◌, ◌^◌, ◌≤◌, ◌<◌, true, cond, List, [], ◌∷◌, ◌++◌, length, take, get_or, map, filter, All, refl, ap, sym, ◌∙◌, arith}
 use Rattle.std.specs.Prelude.{pos, ◌+ℤ◌, ◌-ℤ◌, ◌≤ℤ◌, ◌<ℤ◌}
 use Rattle.std.proofs.lemmas.Int.{ints}
 use Rattle.std.proofs.lemmas.List.{take_more, length-take-le, length-map, map-append}
@@ -44,15 +44,6 @@ moved_behind from to oid id rows back are =
     let by_from = count_seen-append oid id from are.front back in
     let same = ap (count_of oid id) (seen_same from to are.front are.seen) in
     omega (arith, ints, parts, by_to, by_from, same)
-
--- what is seen of one step
-pub count_one : (v : List ℕ) (oid : ObjId) (id : ℕ) (row : Row) (b : Bool) → sees_row v row ≡ b
-    → count_of oid id (seen_updates v (row ∷ [])) ≡ cond b (count_of oid id (row.update ∷ [])) (pos 0)
-count_one v oid id row b is = ap (λ t. count_of oid id (map (λ (r : Row). r.update) (cond t (row ∷ []) []))) is ∙ by b
-  where
-    by : (t : Bool) → count_of oid id (map (λ (r : Row). r.update) (cond t (row ∷ []) [])) ≡ cond t (count_of oid id (row.update ∷ [])) (pos 0)
-    by true = refl
-    by false = refl
 
 -- with what is kept of an object it comes to what the vector sees of all rows
 pub count_stands : (oid : ObjId) (id : ℕ) (floor : List ℕ) (kept : Kept) (rows : List Row) → StandsForRows oid floor kept rows → (from to : List ℕ) → Covers from floor → Covers to floor

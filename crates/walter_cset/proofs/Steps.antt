@@ -1,16 +1,13 @@
 -- Counts after more updates, and how far from 0 they can be.
-use Rattle.std.proofs.Common.{◌≡◌, ℕ, ◌+◌, ◌-◌, ◌^◌, ◌≤◌, ◌<◌, true, false, cond, List, [], ◌∷◌, ◌++◌, length, take, get_or, map, filter, ap, sym, ◌∙◌, arith}
+use Rattle.std.proofs.Common.{◌≡◌, ℕ, ◌+◌, ◌-◌, ◌^◌, ◌≤◌, ◌<◌, List, [], ◌∷◌, ◌++◌, length, take, get_or, filter, ap, sym, ◌∙◌, arith}
 use Rattle.std.specs.Prelude.{pos, ◌+ℤ◌, ◌-ℤ◌, ◌≤ℤ◌, ◌<ℤ◌}
-use Rattle.std.proofs.lemmas.Bool.{le-leb, leb-true, false_from_ne_true}
 use Rattle.std.proofs.lemmas.Int.{ints}
-use Rattle.std.proofs.lemmas.List.{map-append, append-nil, length-map, length-take-le, take_more}
-use Rattle.std.proofs.lemmas.List.Elements.{filter_more}
+use Rattle.std.proofs.lemmas.List.{length-map, length-take-le, take_more}
 use Rattle.std.proofs.lemmas.List.Sums.{count_by-le-length, length-filter}
 use Rattle.walter_base.specs.declared.names.ObjId.{ObjId}
 use Rattle.walter_base.specs.declared.update.Row.{Row}
 use Rattle.walter_base.specs.declared.update.Update.{Update}
 use Rattle.walter_base.specs.Values.{count_of, adds, takes}
-use Rattle.walter_base.specs.Vectors.{IsSeenBy}
 use Rattle.walter_history.specs.Rows.{sees_row, seen_updates}
 use Rattle.walter_history.proofs.Standing.{count-append}
 
@@ -35,29 +32,6 @@ pub count_next : (oid : ObjId) (id : ℕ) (updates : List Update) (i : ℕ) (upd
 count_next oid id updates i update within is =
     ap (count_of oid id) (take_more updates i update within ∙ ap (λ (u : Update). take i updates ++ u ∷ []) (sym is))
     ∙ count-append oid id (take i updates) (update ∷ [])
-
--- what is seen of one row more
-seen_more : (vector : List ℕ) (rows : List Row) (i : ℕ) (row : Row) → i < length rows → row ≡ get_or rows i row
-    → seen_updates vector (take (i + 1) rows) ≡ seen_updates vector (take i rows) ++ map (λ (r : Row). r.update) (cond (sees_row vector row) (row ∷ []) [])
-seen_more vector rows i row within is =
-    ap (λ kept. map (λ (r : Row). r.update) kept) (filter_more (sees_row vector) rows i row within)
-    ∙ ap (λ (r : Row). map (λ (q : Row). q.update) (filter (sees_row vector) (take i rows) ++ cond (sees_row vector r) (r ∷ []) [])) (sym is)
-    ∙ map-append (λ (r : Row). r.update) (filter (sees_row vector) (take i rows)) (cond (sees_row vector row) (row ∷ []) [])
-
--- the count after one row more, that is seen or isn't
-pub count_seen : (oid : ObjId) (id : ℕ) (vector : List ℕ) (rows : List Row) (i : ℕ) (row : Row) → i < length rows → row ≡ get_or rows i row → IsSeenBy vector row.version
-    → count_of oid id (seen_updates vector (take (i + 1) rows)) ≡ count_of oid id (seen_updates vector (take i rows)) +ℤ count_of oid id (row.update ∷ [])
-count_seen oid id vector rows i row within is sees =
-    let passes : sees_row vector row ≡ true = le-leb _ _ sees in
-    ap (count_of oid id) (seen_more vector rows i row within is ∙ ap (λ b. seen_updates vector (take i rows) ++ map (λ (r : Row). r.update) (cond b (row ∷ []) [])) passes)
-    ∙ count-append oid id (seen_updates vector (take i rows)) (row.update ∷ [])
-
-pub count_unseen : (oid : ObjId) (id : ℕ) (vector : List ℕ) (rows : List Row) (i : ℕ) (row : Row) → i < length rows → row ≡ get_or rows i row → ¬ IsSeenBy vector row.version
-    → count_of oid id (seen_updates vector (take (i + 1) rows)) ≡ count_of oid id (seen_updates vector (take i rows))
-count_unseen oid id vector rows i row within is unseen =
-    let fails : sees_row vector row ≡ false = false_from_ne_true (sees_row vector row) (λ passes. unseen (leb-true _ _ passes)) in
-    ap (count_of oid id) (seen_more vector rows i row within is ∙ ap (λ b. seen_updates vector (take i rows) ++ map (λ (r : Row). r.update) (cond b (row ∷ []) [])) fails
-    ∙ append-nil (seen_updates vector (take i rows)))
 
 -- no more updates are seen than there are rows
 pub few_seen : (vector : List ℕ) (rows : List Row) → length (seen_updates vector rows) ≤ length rows

@@ -1,3 +1,4 @@
+//! What the store asks of a disk: a trait.
 ghost use Rattle.std.specs.Prelude.{◌≡◌, ◌+◌, ◌<◌, ◌≤◌, ◌++◌, [], ◌∷◌, ℕ, List, length, take, drop, false, true, IsSome, option_map, is_some, IfSome, OnOk, OnErr, Err};
 ghost use Rattle.walter_disk.specs.Disks.{DiskState, written, Breaks, MakesRoom, TakesRoom};
 ghost use Rattle.walter_disk.specs.Images.{Torn, Follows, Narrows, IsDurable, IsImage, Elapses};

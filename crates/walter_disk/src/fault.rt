@@ -1,3 +1,4 @@
+//! Why a call on a disk fails, and why it makes no room.
 use std::alloc::{AllocError, AllocFailed};
 use thiserror::Error;
 

@@ -1,3 +1,4 @@
+//! Where the disks of sites come from, and where they go: a trait.
 ghost use Rattle.std.specs.Prelude.{◌≡◌, ◌+◌, ◌<◌, ◌≤◌, ◌++◌, ◌∷◌, [], ℕ, List, Option, option_map, IsOk, IfSome, IfOk, OnOk, OnErr};
 ghost use Rattle.std.specs.Option.{option_copied};
 ghost use Rattle.walter_disk.specs.Racks.{IsFresh};

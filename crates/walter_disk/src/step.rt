@@ -1,3 +1,4 @@
+//! A write with the sync that makes it safe.
 ghost use Rattle.std.specs.Prelude.{◌≡◌, ◌+◌, ◌≤◌, ℕ, List, length, false, OnOk, OnErr};
 ghost use Rattle.walter_disk.specs.Disks.{written, Fails, TakesRoom};
 ghost use Rattle.walter_disk.specs.Images.{Torn, Only, IsDurable, LeavesOnly};

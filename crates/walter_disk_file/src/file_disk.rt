@@ -1,3 +1,4 @@
+//! A disk over a file of the system.
 ghost use Rattle.std.specs.Prelude.{◌≡◌, false, IsOk, IfOk, OnOk, OnErr};
 ghost use Rattle.walter_disk_file.specs.FileDisks.{fresh_disk, after_call, after_fault};
 

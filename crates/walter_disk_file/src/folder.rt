@@ -1,3 +1,4 @@
+//! A folder with a file for the journal of each site.
 use crate::file_disk::FileDisk;
 use std::alloc::{AllocError, Global};
 use std::fmt;

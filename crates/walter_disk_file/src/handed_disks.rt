@@ -1,3 +1,4 @@
+//! The disks that a rack was handed, kept in proofs alone.
 ghost use Rattle.std.specs.Prelude.{◌≡◌, ℕ, List};
 ghost use Rattle.std.specs.Borrow.{ftrue};
 ghost use Rattle.walter_disk_file.specs.Codes.{disks_code};

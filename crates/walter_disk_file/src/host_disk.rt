@@ -1,3 +1,4 @@
+//! A disk of either kind: in memory, or over a file.
 use crate::file_disk::FileDisk;
 use walter_disk::{Disk, Failed, Mem};
 use walter_disk_memory::{MemoryDisk, unarmed_never_failed};

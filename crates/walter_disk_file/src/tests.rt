@@ -1,3 +1,4 @@
+//! Tests over files of the system.
 use super::*;
 use std::fs::{self, OpenOptions};
 use std::path::PathBuf;

@@ -1,3 +1,4 @@
+//! What a disk in memory holds, and what a crash might leave of the writes that pend.
 ghost use Rattle.std.specs.Prelude.{◌≡◌, ◌+◌, ◌<◌, ◌≤◌, ◌++◌, [], length, max, take, replicate, vec_len, vec_capacity, IfOk, OnOk, OnErr};
 ghost use Rattle.walter_disk_memory.specs.Contents.{Write, FailedWrite, Sync, Settle, put, filled, at_rest, settled, after};
 ghost use Rattle.walter_disk_memory.specs.ImageLaws.{IsSound};

@@ -1,3 +1,4 @@
+//! What may come to a past.
 use crate::memory_disk::MemoryDisk;
 use crate::past::Past;
 

@@ -1,3 +1,4 @@
+//! A disk in memory, which fails where it is armed to.
 ghost use Rattle.std.specs.Prelude.{◌≡◌, ◌+◌, ◌<◌, ◌≤◌, [], length, take, drop, is_err, IsOk, IfOk, OnOk, OnErr};
 ghost use Rattle.walter_disk_memory.specs.Contents.{Write, FailedWrite, Sync, Settle, settled};
 ghost use Rattle.walter_disk_memory.specs.MemoryDisks.{holding, content_of, called, after_pass, after_fault, after_mend, with_room, FailsOnlyIfArmed};

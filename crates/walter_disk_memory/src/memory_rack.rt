@@ -1,3 +1,4 @@
+//! A rack of disks in memory, which fails where it is told to.
 ghost use Rattle.std.specs.Prelude.{◌≡◌, ◌+◌, ◌<◌, ◌≤◌, ◌++◌, ◌∷◌, [], length, All, IsOk, IsErr, IfOk, OnOk, OnErr};
 ghost use Rattle.walter_disk_memory.specs.MemoryDisks.{FailsOnlyIfArmed};
 ghost use Rattle.walter_disk_memory.specs.MemoryRacks.{contents_of, disk_of, rack_of, unfailing_of, HandsOutNoBytes};

@@ -1,3 +1,4 @@
+//! What came to a disk or a rack so far, kept in proofs alone.
 ghost use Rattle.std.specs.Prelude.{◌≡◌, ℕ, List};
 ghost use Rattle.std.specs.Borrow.{ftrue};
 ghost use Rattle.walter_disk_memory.specs.Contents.{Call};

@@ -1,3 +1,4 @@
+//! Which calls of a disk fail: those that an arm says, and all until it has settled.
 ghost use Rattle.std.specs.Prelude.{◌≡◌, ◌<◌, is_err, OnOk, OnErr};
 ghost use Rattle.walter_disk_memory.specs.Stops.{unarmed, fails, passed, failed, armed, choice_made, mended, FailOnlyIfArmed};
 

@@ -16,13 +16,6 @@ pub record IsLeast (H : Holdings) (site least : ℕ) : Type 0 where
   pub each : ArePassed H site least
   pub most : (k : ℕ) → k ≤ own H → ArePassed H site k → k ≤ least
 
-pub least_first : (H : Holdings) → IsLeast H 0 (own H)
-least_first H = record {
-  within = omega arith;
-  each = λ peer lt apart. absurd (omega (arith, lt));
-  most = λ k le passed. le;
-}
-
 passed_before : (H : Holdings) (site k : ℕ) → ArePassed H (site + 1) k → ArePassed H site k
 passed_before H site k passed peer lt apart = passed peer (omega (arith, lt)) apart
 
@@ -50,12 +43,6 @@ least_peer H site least other is = record {
       let before = is.most k le (passed_before H site k passed) in
       let last = passed site (omega arith) other in
       omega (arith, before, last);
-}
-
-pub least_of_all : (H : Holdings) (least : ℕ) → IsLeast H H.sites least → IsGreatest (AreVisible H) least
-least_of_all H least is = record {
-  one = record { within = is.within; each = is.each };
-  most = λ k visible. is.most k visible.within visible.each;
 }
 
 -- what is acknowledged, and what is journaled, doesn't touch it

@@ -1,3 +1,4 @@
+//! The own commits, and which sites hold each.
 use crate::preferred::PreferredSites;
 use walter_base::{MOST_SITES, SiteId, Vts};
 

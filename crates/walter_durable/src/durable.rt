@@ -1,3 +1,4 @@
+//! How far the own commits are held and seen, and the marks of both that were journaled.
 ghost use Rattle.std.specs.Prelude.{◌≡◌, ◌<◌, ◌≤◌, ◌+◌, List, length, IsOk, OnOk, ◌↔◌, IsTrue};
 ghost use Rattle.walter_base.specs.declared.names.SiteId.{SiteId as Site};
 ghost use Rattle.walter_base.specs.Vectors.{most_sites, entry_at};

@@ -1,3 +1,4 @@
+//! Sites that exist in proofs alone.
 ghost use Rattle.std.specs.Prelude.{◌≡◌, List};
 ghost use Rattle.std.specs.Borrow.{ftrue};
 ghost use Rattle.walter_base.specs.declared.names.SiteId.{SiteId as Site};
@@ -29,6 +30,7 @@ pub enum Listing<'a> {
 impl GhostSites {
     ghost use Rattle.walter_durable.specs.Listings.{listed_after};
 
+    /// The sites after the listing.
     pub fn of(listing: &Listing<'_>) -> GhostSites
         ensures { result ≡ listed_after listing.now }
     {

@@ -1,3 +1,4 @@
+//! The preferred sites of an own commit, as bits.
 ghost use Rattle.std.specs.Prelude.{◌≡◌, ◌<◌, ◌++◌, ◌∷◌, []};
 ghost use Rattle.walter_durable.specs.Bits.{has_place, place_of};
 

@@ -1,8 +1,7 @@
 -- How a journal is laid out, by its bytes.
-use Rattle.std.proofs.Common.{◌≡◌, ◌≢◌, ◌≤◌, ◌==◌, ℕ, Bool, true, false, if◌then◌else◌, List, get_or, refl, ap, sym, ◌∙◌, subst, inl, inr, arith}
+use Rattle.std.proofs.Common.{◌≡◌, ◌==◌, ℕ, Bool, true, false, if◌then◌else◌, List, get_or, refl, ap, sym, ◌∙◌, subst, inl, inr, arith}
 use Rattle.walter_checkpoint.specs.Areas.{Shape, shape_by, HasTwo, HasContent}
 use Rattle.walter_checkpoint.specs.Books.{areas_of}
-use Rattle.walter_checkpoint.specs.Loads.{IsAreas}
 use Rattle.walter_checkpoint.specs.declared.book.Live.{Live}
 use Rattle.walter_checkpoint.specs.declared.book.Live.TheVariants.{Whole, A, B}
 use Rattle.walter_engine.specs.Contents.{HasBodies}
@@ -57,9 +56,3 @@ one_layout shape (one_area capacity) B bytes a b is x y = absurd (apart shape by
 one_layout shape (two_areas capacity sites) Whole bytes a b is x y = absurd (apart (shape_by capacity sites) bytes b a y x)
 one_layout shape (two_areas capacity sites) A bytes a b is x y = λ j. two_areas (sym is.0 j) (sym is.1 j)
 one_layout shape (two_areas capacity sites) B bytes a b is x y = λ j. two_areas (sym is.0 j) (sym is.1 j)
-
--- a book that is loaded is of one area, or of two that are great enough
-pub areas_are : (live : Live) (capacity : ℕ) → (live ≢ Whole → 47 ≤ capacity) → IsAreas (areas_of live) capacity
-areas_are Whole capacity two = inl refl
-areas_are A capacity two = inr (refl, two (λ is. absurd (cc)))
-areas_are B capacity two = inr (refl, two (λ is. absurd (cc)))

@@ -1,3 +1,4 @@
+//! What comes of an event beside its entry, and why a site doesn't begin or restart.
 use thiserror::Error;
 use walter_packet::Framed;
 

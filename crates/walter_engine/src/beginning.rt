@@ -1,3 +1,4 @@
+//! The first restart of a site.
 ghost use Rattle.std.specs.Prelude.{◌≡◌, ◌+◌, ◌≤◌, [], ◌∷◌, map, is_ok, is_some, None, Result, OnOk};
 ghost use Rattle.walter_disk.specs.Images.{LeavesOnly};
 ghost use Rattle.walter_engine.specs.declared.answers.BeginFault.{BeginFault as Fault};

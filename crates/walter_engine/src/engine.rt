@@ -1,3 +1,4 @@
+//! A site with its disk: events come to it, and what they bring is journaled.
 ghost use Rattle.std.specs.Prelude.{◌≡◌, ◌≢◌, ◌+◌, ◌<◌, ◌≤◌, ℕ, List, ◌++◌, ◌∷◌, [], true, false, not, None, Some, map, is_ok, is_some, IsSome, IfSome, IfOk, IfErr, OnOk, OnErr, option_map};
 ghost use Rattle.walter_base.specs.Vectors.{most_sites};
 ghost use Rattle.walter_checkpoint.specs.Loads.{IsAreas};

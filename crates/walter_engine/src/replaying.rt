@@ -1,3 +1,4 @@
+//! The site that the bodies of a journal tell.
 ghost use Rattle.std.specs.Prelude.{◌≡◌, ◌≤◌, ◌<◌, map, IfOk, IfErr, IfSome, OnOk};
 ghost use Rattle.walter_tables.specs.Sites.{site_of, catalog_of};
 ghost use Rattle.walter_engine.specs.Effects.{IsRefusedOver};

@@ -1,3 +1,4 @@
+//! A restart of a site over the book of its disk.
 ghost use Rattle.std.specs.Prelude.{◌≡◌, ◌+◌, ◌<◌, ◌≤◌, ◌^◌, [], None, false, map, length, is_some, IfSome, OnErr, OnOk};
 ghost use Rattle.walter_disk.specs.Disks.{Fails};
 ghost use Rattle.walter_disk.specs.Images.{LeavesOnly};

@@ -1,3 +1,4 @@
+//! An event that is ready, once its record is journaled.
 ghost use Rattle.std.specs.Prelude.{◌≡◌, ℕ, List, None, false, length, IsSome, IfOk, IfSome, OnErr, OnOk};
 ghost use Rattle.walter_base.specs.Sizes.{CanBeRecorded};
 ghost use Rattle.walter_checkpoint.specs.Books.{HasPackRoom, HasRoomBehind, IsReady};

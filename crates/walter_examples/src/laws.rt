@@ -1,3 +1,4 @@
+//! The examples are right trails, and spell the histories that are written beside them.
 ghost use Rattle.std.specs.Prelude.{◌≡◌, ℕ, List};
 ghost use Rattle.walter_base.specs.declared.catalog.Catalog.{Catalog};
 ghost use Rattle.walter_examples.specs.CausalOrder.{HoldsCausalOrder, causal_trails, causal_history};

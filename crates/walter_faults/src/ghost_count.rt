@@ -1,3 +1,4 @@
+//! A count that exists in proofs alone.
 ghost use Rattle.std.specs.Prelude.{◌≡◌, ℕ, ◌+◌};
 ghost use Rattle.std.specs.Borrow.{ftrue};
 

@@ -1,3 +1,4 @@
+//! Which calls are to fail, and how many have failed.
 ghost use Rattle.std.specs.Prelude.{◌≡◌, ◌↔◌, ◌+◌, IsTrue, true, false};
 ghost use Rattle.walter_faults.specs.Schedules.{planned, NextFails, AddsCall};
 

@@ -1,3 +1,4 @@
+//! Tests of planned faults.
 use super::*;
 use std::process::Abort;
 use std::test::Fail;

@@ -1,3 +1,4 @@
+//! An appender: it takes its memory at the start, so that no field is refused later.
 ghost use Rattle.std.specs.Prelude.{◌≡◌, ◌+◌, ◌≤◌, ◌<◌, ◌^◌, ◌++◌, [], length, IfOk};
 ghost use Rattle.walter_fields.specs.Spellings.{number_spelled, signed_spelled, block_spelled};
 
@@ -68,6 +69,7 @@ impl Appender {
         self.room -= bytes.len();
     }
 
+    /// One byte.
     #[tactic(auto, unfolding(crate::specs::Spellings::number_spelled))]
     pub fn u8(&mut self, n: u8)
         requires { 1 ≤ self.old.room }
@@ -77,6 +79,7 @@ impl Appender {
         self.bytes(&[n]);
     }
 
+    /// Two bytes, the highest first.
     #[tactic(auto, unfolding(crate::specs::Spellings::number_spelled))]
     pub fn u16(&mut self, n: u16)
         requires { 2 ≤ self.old.room }
@@ -86,6 +89,7 @@ impl Appender {
         self.bytes(&n.to_be_bytes());
     }
 
+    /// Four bytes, the highest first.
     #[tactic(auto, unfolding(crate::specs::Spellings::number_spelled))]
     pub fn u32(&mut self, n: u32)
         requires { 4 ≤ self.old.room }
@@ -95,6 +99,7 @@ impl Appender {
         self.bytes(&n.to_be_bytes());
     }
 
+    /// Eight bytes, the highest first.
     #[tactic(auto, unfolding(crate::specs::Spellings::number_spelled))]
     pub fn u64(&mut self, n: u64)
         requires { 8 ≤ self.old.room }
@@ -104,6 +109,7 @@ impl Appender {
         self.bytes(&n.to_be_bytes());
     }
 
+    /// Eight bytes, the highest first, in two's complement.
     pub fn i64(&mut self, z: i64)
         requires { 8 ≤ self.old.room }
         ensures bytes { self.new.bytes ≡ self.old.bytes ++ signed_spelled z }

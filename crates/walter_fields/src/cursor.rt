@@ -1,3 +1,4 @@
+//! A cursor: it reads fields from the front of bytes, and stays where it is when one is not there whole.
 ghost use Rattle.std.specs.Prelude.{◌≡◌, ◌↔◌, ◌+◌, ◌<◌, ◌^◌, ◌++◌, ℕ, List, [], length, IsErr, IsTrue, IfOk, IfErr, Ok};
 ghost use Rattle.walter_fields.specs.Cursors.{Takes, IsWanting, LacksBlock, whole_of};
 ghost use Rattle.walter_fields.specs.Spellings.{number_read, number_spelled, signed_spelled, block_spelled};
@@ -43,6 +44,7 @@ impl<'a> Cursor<'a> {
         self.end - self.left.len()
     }
 
+    /// Whether no byte is left.
     pub fn is_at_end(&self) -> bool
         ensures { IsTrue result ↔ (self.now.left ≡ []) }
     {
@@ -71,6 +73,7 @@ impl<'a> Cursor<'a> {
         Ok(front)
     }
 
+    /// One byte.
     #[tactic(auto, unfolding(crate::specs::Spellings::number_read))]
     pub fn u8(&mut self) -> Result<u8, Short>
         ensures taken { IfOk result (λ n. Takes self.old self.new (number_spelled 1 n)) }
@@ -80,6 +83,7 @@ impl<'a> Cursor<'a> {
         Ok(self.take(1)?[0])
     }
 
+    /// A number of two bytes, the highest first.
     #[tactic(auto, unfolding(crate::specs::Spellings::number_read))]
     pub fn u16(&mut self) -> Result<u16, Short>
         ensures taken { IfOk result (λ n. Takes self.old self.new (number_spelled 2 n)) }
@@ -89,6 +93,7 @@ impl<'a> Cursor<'a> {
         Ok(BigEndian::read_u16(self.take(2)?))
     }
 
+    /// A number of four bytes, the highest first.
     #[tactic(auto, unfolding(crate::specs::Spellings::number_read))]
     pub fn u32(&mut self) -> Result<u32, Short>
         ensures taken { IfOk result (λ n. Takes self.old self.new (number_spelled 4 n)) }
@@ -98,6 +103,7 @@ impl<'a> Cursor<'a> {
         Ok(BigEndian::read_u32(self.take(4)?))
     }
 
+    /// A number of eight bytes, the highest first.
     #[tactic(auto, unfolding(crate::specs::Spellings::number_read))]
     pub fn u64(&mut self) -> Result<u64, Short>
         ensures taken { IfOk result (λ n. Takes self.old self.new (number_spelled 8 n)) }
@@ -107,6 +113,7 @@ impl<'a> Cursor<'a> {
         Ok(BigEndian::read_u64(self.take(8)?))
     }
 
+    /// A number of eight bytes, the highest first, in two's complement.
     pub fn i64(&mut self) -> Result<i64, Short>
         ensures taken { IfOk result (λ z. Takes self.old self.new (signed_spelled z)) }
         ensures short { IsErr result ↔ (length self.old.left < 8) }

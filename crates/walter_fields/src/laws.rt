@@ -1,3 +1,4 @@
+//! Laws of the spellings of numbers and blocks.
 ghost use Rattle.std.specs.Prelude.{◌≡◌, ◌<◌, ◌^◌, ◌++◌, ℕ, ℤ, List, length, FitsSigned};
 ghost use Rattle.std.specs.Int.{w64};
 ghost use Rattle.walter_fields.specs.Spellings.{IsBytes, number_read, number_spelled, signed_spelled, block_spelled};

@@ -1,3 +1,4 @@
+//! The error of what only want of memory can hinder.
 use std::alloc::AllocError;
 use thiserror::Error;
 

@@ -1,3 +1,4 @@
+//! The error of bytes that end before a field does.
 use thiserror::Error;
 
 /// The bytes end before the field does.

@@ -66,10 +66,6 @@ no_room lines oid none = ap (λ o. option_map_or (λ l. l.room) o 0) none
 pub record Sets (old new : List (ObjId × Line)) (oid : ObjId) (line : Line) : Type 0 where
   pub at : (other : ObjId) → line_of new other ≡ (if same_object oid other then Some line else line_of old other)
 
--- the same of lines that are equal
-pub from_view : (lines old new : List (ObjId × Line)) {oid : ObjId} {line : Line} → lines ≡ old → Sets lines new oid line → Sets old new oid line
-from_view lines old new {oid} {line} is sets = subst (λ l. Sets l new oid line) is sets
-
 chosen : (b : Bool) (v : Held) (o : Option (Held)) → option_map line_in (cond b (Some v) o) ≡ (if b then Some (line_in v) else option_map line_in o)
 chosen true v o = refl
 chosen false v o = refl

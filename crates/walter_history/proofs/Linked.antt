@@ -1,10 +1,9 @@
--- Steps that are linked stay so behind one more, and behind a fold.
+-- Steps that are linked stay so where some are left out, and see those before them.
 use Rattle.std.proofs.Common.{◌≡◌, ℕ, ◌<◌, Bool, true, false, cond, ◌++◌, List, [], ◌∷◌, length, take, drop, get_or, filter, All, Option, refl, ap, sym, ◌∙◌, subst, arith}
 use Rattle.std.proofs.Math.Seq.{get_or-append_seam}
 use Rattle.std.proofs.lemmas.List.{get_or-take, get_or_default, get_or_append_left, length-append, length-take-le, map-append, take-append-drop}
 use Rattle.std.proofs.lemmas.List.Elements.{All-push, All-filter, All-map}
 use Rattle.std.proofs.lemmas.List.Kept.{AllPairs-filter}
-use Rattle.std.proofs.lemmas.List.Quantifiers.{all_pairs_push}
 use Rattle.walter_base.specs.declared.update.Row.{Row}
 use Rattle.walter_history.specs.declared.steps.Step.{Step}
 use Rattle.walter_history.specs.Rows.{sees_row}
@@ -12,12 +11,6 @@ use Rattle.walter_base.specs.declared.names.Version.{Version}
 use Rattle.walter_base.specs.Conflicts.{sees_version}
 use Rattle.walter_history.specs.Reaches.{Reaches, IsWide}
 use Rattle.walter_history.specs.Steps.{told, AreLinked, AreSeenBefore, AreBehind}
-
-pub linked_push : (steps : List Step) (step : Step) → AreLinked steps → All (λ s. Reaches step.before s.row.version) steps → IsWide step.before → AreLinked (steps ++ step ∷ [])
-linked_push steps step linked reach wide = record {
-  pairs = all_pairs_push (λ a b. Reaches b.before a.row.version) steps step linked.pairs (λ k d within. reach k d within);
-  wide = All-push (λ (s : Step). IsWide s.before) steps step linked.wide wide;
-}
 
 pub linked_filter : (p : Step → Bool) (steps : List Step) → AreLinked steps → AreLinked (filter p steps)
 linked_filter p steps linked = record {

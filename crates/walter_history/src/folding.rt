@@ -1,3 +1,4 @@
+//! Folds the writes of an object that a vector sees into one value.
 ghost use Rattle.std.specs.Prelude.{◌≡◌, ◌<◌, ◌≤◌, ◌-◌, [], not, filter, drop, length, vec_len, vec_capacity};
 ghost use Rattle.walter_history.specs.Folded.{FoldsWrites, IsFrontSeen};
 ghost use Rattle.walter_history.specs.Lines.{spare_of};

@@ -1,3 +1,4 @@
+//! What is kept of all objects, folded at one floor.
 ghost use Rattle.std.specs.Prelude.{◌≡◌, ◌<◌, ◌≤◌, ◌+◌, true, List, [], None, Some, OnOk, IfErr, replicate, if◌then◌else◌};
 ghost use Rattle.std.specs.Option.{option_copied};
 ghost use Rattle.walter_base.specs.declared.names.ObjId.{ObjId as Object};

@@ -1,3 +1,4 @@
+//! Room for more in a vector, at first with no place to spare.
 ghost use Rattle.std.specs.Prelude.{◌≡◌, ◌≤◌, OnOk};
 ghost use Rattle.walter_history.specs.Lines.{spare_of};
 

@@ -1,3 +1,4 @@
+//! What a vector sees of the rows of an object: the last write, and whether all versions.
 ghost use Rattle.std.specs.Prelude.{◌≡◌, None, Some, OnOk, IfErr};
 ghost use Rattle.std.specs.Option.{option_copied};
 ghost use Rattle.walter_base.specs.Conflicts.{first_outside};

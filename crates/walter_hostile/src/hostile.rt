@@ -1,3 +1,4 @@
+//! Bytes that a seed makes of valid ones.
 ghost use Rattle.std.specs.Prelude.{◌<◌};
 
 use rand_core::Rng;

@@ -1,5 +1,5 @@
 -- A disk while zeros are written behind its last byte, with no sync between the writes.
-use Rattle.std.proofs.Common.{◌≡◌, inl, inr, ⊎_elim, ◌+◌, ◌-◌, ◌≤◌, max, ℕ, List, ◌++◌, length, take, drop, Option, Some, None, option_map, refl, sym, ap, ◌∙◌, arith, append_assoc, length-append}
+use Rattle.std.proofs.Common.{◌≡◌, inl, inr, ⊎_elim, ◌+◌, ◌-◌, ◌≤◌, max, ℕ, List, ◌++◌, length, take, drop, Option, Some, None, option_map, sym, ap, ◌∙◌, arith, append_assoc, length-append}
 use Rattle.std.proofs.lemmas.List.{take-take, take_all, drop_all, append-nil, length-replicate, replicate-append-replicate}
 use Rattle.std.specs.Prelude.{IfSome}
 use Rattle.walter_disk.specs.Disks.{DiskState, laid, written}
@@ -35,9 +35,6 @@ grown_torn place end at count images behind within a b grown torn = (
     size = ⊎_elim (λ same. omega (arith, same, grown.2.size)) (λ more. omega (arith, more, grown.2.size, within)) torn.size;
   },
 )
-
-pub grown_none : (place end : ℕ) (images : List ℕ → Type 0) (image : List ℕ) → images image → HasGrown place end images image
-grown_none place end images image is = (image, is, record { front = refl; size = omega arith })
 
 -- one more write of zeros
 module _ {D : Type 0} (moment : D → ℕ) (left_since : D → ℕ → List ℕ → Type 0) (may_leave : D → List ℕ → Type 0) (only_now : (disk : D) (image : List ℕ) → left_since disk (moment disk) image → may_leave disk image) (place end at count : ℕ)
@@ -77,16 +74,3 @@ filled_on old mid new at count over size le is is_zeros done = done ∙ ap (λ d
     more (Some bytes) told =
         ap (λ n. record old { reads = Some (laid at (zeros count) (filled at bytes)); size = n }) sizes
         ∙ ap (λ l. record old { reads = Some l; size = max old.size (at + count) }) (filled_more at count bytes (omega (arith, told, le)))
-
-pub filled_none : (disk : DiskState) (to : ℕ) → IfSome disk.reads (λ bytes. disk.size ≡ length bytes) → to ≤ disk.size → disk ≡ filled_disk to disk
-filled_none disk to size le = none disk.reads size
-  where
-    sizes : disk.size ≡ max disk.size to
-    sizes = omega (arith, le)
-
-    none : (reads : Option (List ℕ)) → IfSome reads (λ bytes. disk.size ≡ length bytes) → record disk { reads = reads } ≡ record disk { reads = option_map (filled to) reads; size = max disk.size to }
-    none None told = ap (λ n. record disk { reads = None; size = n }) sizes
-    none (Some bytes) told =
-        let no_more : 0 ≡ to - length bytes = omega (arith, told, le) in
-        ap (λ n. record disk { reads = Some bytes; size = n }) sizes
-        ∙ ap (λ l. record disk { reads = Some l; size = max disk.size to }) (sym (append-nil bytes) ∙ ap (λ n. bytes ++ zeros n) no_more)

@@ -1,3 +1,4 @@
+//! The bodies of a journal, in order.
 ghost use Rattle.std.specs.Prelude.{◌≡◌, ◌++◌, [], ◌∷◌, map, OnOk, OnErr};
 
 use std::alloc::{AllocError, Global};

@@ -1,3 +1,4 @@
+//! Why no journal is loaded, and why no body is appended.
 ghost use Rattle.std.specs.Prelude.{◌≡◌};
 
 use std::alloc::AllocError;

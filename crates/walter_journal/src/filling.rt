@@ -1,3 +1,4 @@
+//! Zeros behind the last byte of a disk.
 ghost use Rattle.std.specs.Prelude.{◌≡◌, ◌+◌, ◌-◌, ◌≤◌, min, length, OnOk, OnErr};
 ghost use Rattle.walter_disk.specs.Disks.{Fails, TakesRoom};
 ghost use Rattle.walter_disk.specs.Images.{Follows, LeavesOnly};

@@ -1,3 +1,4 @@
+//! A journal on a disk: bodies are appended to it.
 ghost use Rattle.std.specs.Prelude.{◌≡◌, ◌+◌, ◌-◌, ◌<◌, ◌≤◌, ◌++◌, ◌∷◌, [], ℕ, List, length, min, is_some, option_map, vec_capacity, true, false, Err, OnOk, OnErr};
 ghost use Rattle.walter_disk.specs.Disks.{written, Breaks, Fails, MakesRoom, TakesRoom};
 ghost use Rattle.walter_disk.specs.Images.{Torn, Only, IsDurable, Follows, Narrows, Elapses, LeavesOnly};

@@ -1,3 +1,5 @@
+//! How the bodies of a journal stand in its bytes: each behind an open gate, and a closed one behind the
+//! last.
 ghost use Rattle.std.specs.Prelude.{◌≡◌, ◌<◌, ◌++◌, ◌+◌, ℕ, List, length, take, IfOk, IfErr};
 ghost use Rattle.walter_journal.specs.Faults.{IsWrong, IsWrongBehind};
 ghost use Rattle.walter_journal.specs.Layout.{record_of, end_behind, span_of, HasBehind, IsShort, ClaimsTooMuch, HasContent, IsForeign, IsDamaged};

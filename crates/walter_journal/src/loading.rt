@@ -1,3 +1,4 @@
+//! Loads the journal of a disk, and begins one on a disk of no bytes.
 ghost use Rattle.std.specs.Prelude.{◌≡◌, ◌+◌, ◌<◌, ◌≤◌, ◌++◌, ◌∷◌, [], length, is_some, false, IsSome, IfSome, IfOk, IfErr, OnOk};
 ghost use Rattle.walter_disk.specs.Images.{Only, IsDurable, IsImage, LeavesOnly};
 ghost use Rattle.walter_journal.specs.Faults.{HasCause, IsDiskFault};

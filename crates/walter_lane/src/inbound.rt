@@ -1,3 +1,4 @@
+//! The end of a lane at its receiver.
 ghost use Rattle.std.specs.Prelude.{◌≡◌, ◌+◌, ◌-◌, ◌<◌, ◌≤◌, ◌⊎◌, ◌++◌, ◌↔◌, length, take, drop, vec_len, vec_capacity, OnErr, IfSome, IsNone, Some, slice_get};
 ghost use mathlib.Core.List.{IsPrefix};
 ghost use Rattle.rtrb.specs.Ring.{received, known_items, SameConsumer};

@@ -1,3 +1,4 @@
+//! Both ends of a lane at hand: they are made, meet and are compared.
 ghost use Rattle.std.specs.Prelude.{◌≡◌, [], length, OnOk, OnErr, IfOk};
 ghost use mathlib.Core.List.{IsPrefix};
 

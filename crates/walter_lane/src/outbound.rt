@@ -1,3 +1,4 @@
+//! The end of a lane at its sender.
 ghost use Rattle.std.specs.Prelude.{◌≡◌, ◌+◌, ◌≤◌, ◌⊎◌, ◌++◌, ◌∷◌, [], length, OnOk, OnErr, IfErr, IsErr};
 
 use crate::posted::Posted;

@@ -1,3 +1,4 @@
+//! A packet as it goes over a lane.
 use walter_packet::Framed;
 
 /// A packet with the stamp of the event that put it out.

@@ -1,3 +1,4 @@
+//! What becomes of each packet between two sites: a generator draws it.
 ghost use Rattle.std.specs.Prelude.{◌≡◌};
 
 use rand_core::utils::NextWord;

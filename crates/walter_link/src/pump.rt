@@ -1,3 +1,4 @@
+//! What waits at a site that is pumped, and how many ticks are left to it.
 ghost use Rattle.std.specs.Prelude.{◌≡◌, ◌≢◌, ◌<◌, ◌≤◌, ◌+◌, ◌-◌, ◌*◌, ◌↔◌, length, drop, slice_get, IfOk, IfSome, IsTrue, OnErr, OnOk};
 ghost use Rattle.std.specs.VecDeque.{deque_len, deque_capacity};
 ghost use Rattle.walter_link.specs.Pumps.{HasTaken, new_pump, put_all, put_in, sender_behind, take_up_to};

@@ -18,10 +18,6 @@ pub lost_recorded : (catalog : Catalog) (i : SiteId) (rec : Option Record) (K : 
 lost_recorded catalog i None K = refl
 lost_recorded catalog i (Some r) K = one_recorded catalog i K r
 
--- where nothing is recorded it stays
-pub recorded_none : (catalog : Catalog) (i : SiteId) (K : Knowledge) → recorded catalog i None K ≡ K
-recorded_none catalog i K = refl
-
 -- what records tell after an event
 pub lost_after : (catalog : Catalog) (i : SiteId) (K : Knowledge) (event : Event) (outcome : Outcome)
     (wrote : Option Record)

@@ -1,3 +1,4 @@
+//! Laws of right and linked trails: what a site has of the others' commits, and the marks that it goes by.
 ghost use Rattle.std.specs.Prelude.{◌≡◌, ◌≢◌, ◌∷◌, ◌++◌, ℕ, List, reverse};
 ghost use Rattle.walter_base.specs.Catalogs.{Item, AreRight, containers_of};
 ghost use Rattle.walter_base.specs.declared.catalog.Catalog.{Catalog};

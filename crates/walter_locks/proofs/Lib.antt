@@ -2,6 +2,5 @@ pub mod SingleLocks
 pub mod Parts
 pub mod Numbers
 pub mod Adding
-pub mod Owning
 pub mod Marked
 pub mod Leaving

@@ -1,5 +1,5 @@
 -- What a site has of each slow commit, where one of them changes.
-use Rattle.std.proofs.Common.{◌≡◌, ◌↔◌, ℕ, Bool, true, false, cond, ◌||◌, List, Option, Some, None, IsSome, IsTrue, is_some, Contains, All, Result, Ok, Err, IsOk, OnOk, refl, ap, sym, ◌∙◌, subst, if◌then◌else◌}
+use Rattle.std.proofs.Common.{◌≡◌, ◌↔◌, ℕ, Bool, true, false, cond, List, Option, Some, None, IsSome, IsTrue, is_some, Contains, All, Result, Ok, Err, IsOk, OnOk, refl, ap, sym, ◌∙◌, subst, if◌then◌else◌}
 use Rattle.std.specs.Option.{option_map_or}
 use Rattle.std.proofs.lemmas.List.Folds.{list_any_at}
 use Rattle.std.proofs.lemmas.List.Elements.{All-contains}
@@ -13,7 +13,7 @@ use Rattle.walter_locks.specs.declared.lock.Lock.{Lock}
 use Rattle.walter_locks.specs.declared.lock.SlowId.{SlowId}
 use Rattle.walter_locks.specs.Intervals.{Numbers}
 use Rattle.walter_locks.specs.Parts.{same_slow, is_dead, lock_of, owner_in, AreSingle}
-use Rattle.walter_rules.specs.Slow.{Part, Free, Locked, Over, has_object, is_slow, does_lock, unlocked}
+use Rattle.walter_rules.specs.Slow.{Part, Free, Locked, Over, has_object, does_lock, unlocked}
 use Rattle.walter_locks.proofs.SingleLocks.{same_slow-true, owner_found, lock_found, one_lock}
 
 pub contains_has : (oid : ObjId) (objects : List ObjId) → Contains objects oid → has_object oid objects ≡ true
@@ -36,21 +36,10 @@ free_part None true is = absurd (cc)
 free_part None false is = (refl, refl)
 free_part (Some l) dead is = absurd (cc)
 
-pub no_lock : (o : Option Lock) (dead : Bool) (part : Part) → part_in o dead ≡ unlocked part → o ≡ None
-no_lock None dead part is = refl
-no_lock (Some l) dead Free is = absurd (cc)
-no_lock (Some l) dead (Locked tid objects) is = absurd (cc)
-no_lock (Some l) dead Over is = absurd (cc)
-
 pub is_locked : (o : Option Lock) (dead : Bool) → IsTrue (is_some o) ↔ ((tid : Tid) × (objects : List ObjId) × (part_in o dead ≡ Locked tid objects))
 is_locked None true = ((λ is. absurd (cc)), (λ w. let is = w.2 in absurd (cc)))
 is_locked None false = ((λ is. absurd (cc)), (λ w. let is = w.2 in absurd (cc)))
 is_locked (Some l) dead = ((λ is. (l.owner, l.objects, refl)), (λ w. refl))
-
-pub is_over : (o : Option Lock) (dead : Bool) → (IsSome o → dead ≡ false) → IsTrue dead ↔ (part_in o dead ≡ Over)
-is_over None true alive = ((λ is. refl), (λ is. refl))
-is_over None false alive = ((λ is. absurd (cc)), (λ is. absurd (cc)))
-is_over (Some l) dead alive = ((λ is. let no = alive refl in absurd (cc)), (λ is. absurd (cc)))
 
 -- a lock is put under a slow commit, or goes
 pub parts_locked : (b : Bool) (l : Lock) (old new : Option Lock) (dead : Bool) → new ≡ cond b (Some l) old → part_in new dead ≡ (if b then Locked l.owner l.objects else part_in old dead)
@@ -66,11 +55,6 @@ pub parts_unlocked : (b : Bool) (old new : Option Lock) (dead : Bool) → new �
 parts_unlocked true old new dead is alive = ap (λ o. part_in o dead) is ∙ unlocked_part old dead alive
 parts_unlocked false old new dead is alive = ap (λ o. part_in o dead) is
 
--- a slow commit without a lock has none that goes
-pub stays_unlocked : (b dead : Bool) (o : Option Lock) → (b ≡ true → o ≡ None) → part_in o dead ≡ (if b then unlocked (part_in o dead) else part_in o dead)
-stays_unlocked false dead o none = refl
-stays_unlocked true dead o none = subst (λ (x : Option Lock). part_in x dead ≡ unlocked (part_in x dead)) (sym (none refl)) (unlocked_part None dead (λ is. absurd (cc)))
-
 -- what a part that has an object, or hasn't, tells of the lock
 pub lock_with : (o : Option Lock) (dead : Bool) (oid : ObjId) → does_lock (part_in o dead) oid ≡ true → (l : Lock) × (o ≡ Some l) × (has_object oid l.objects ≡ true)
 lock_with None true oid is = absurd (cc)
@@ -79,15 +63,6 @@ lock_with (Some l) dead oid is = (l, refl, is)
 
 pub lock_without : (o : Option Lock) (dead : Bool) (oid : ObjId) (l : Lock) → does_lock (part_in o dead) oid ≡ false → o ≡ Some l → has_object oid l.objects ≡ false
 lock_without o dead oid l is at = subst (λ x. does_lock (part_in x dead) oid ≡ false) at is
-
-pub locks_nothing : (dead : Bool) (oid : ObjId) → does_lock (part_in None dead) oid ≡ false
-locks_nothing true oid = refl
-locks_nothing false oid = refl
-
--- a number is over
-pub parts_over : (b dead : Bool) (o : Option Lock) → (b ≡ true → o ≡ None) → part_in o (b || dead) ≡ (if b then Over else part_in o dead)
-parts_over true dead o none = ap (λ x. part_in x true) (none refl)
-parts_over false dead o none = refl
 
 -- the same slow commit
 pub at_same : (P : SlowId → Type 0) (key other : SlowId) → same_slow key other ≡ true → P key → P other
@@ -131,18 +106,6 @@ alive_left old new dead goes alive given j n is = alive j n (some_left (goes j n
     some_left : (b : Bool) (o : Option Lock) → IsSome (cond b None o) → IsSome o
     some_left true o is = absurd (cc)
     some_left false o is = is
-
-pub alive_marked : (locks : List (SlowId × Lock)) (dead marked : List Numbers) (coordinator : SiteId) (slow : ℕ) → lock_of locks coordinator slow ≡ None
-    → ((j : SiteId) (n : ℕ) → is_dead marked j n ≡ (is_slow coordinator slow j n || is_dead dead j n))
-    → ((j : SiteId) (n : ℕ) → IsSome (lock_of locks j n) → is_dead dead j n ≡ false)
-    → (j : SiteId) (n : ℕ) → IsSome (lock_of locks j n) → is_dead marked j n ≡ false
-alive_marked locks dead marked coordinator slow none given alive j n is =
-    given j n ∙ (elim (is_slow coordinator slow j n) as (λ b. is_slow coordinator slow j n ≡ b → (b || is_dead dead j n) ≡ false) [
-      | true ↦ λ same.
-          let absent = at_same (λ k. lock_of locks k.coordinator k.slow ≡ None) (record { coordinator = coordinator; slow = slow }) (record { coordinator = j; slow = n }) same none in
-          let no : IsSome {T = Lock} None = subst (λ o. IsSome o) absent is in absurd (cc)
-      | false ↦ λ same. alive j n is
-    ] refl)
 
 -- the objects that are to be locked have no owner
 pub free_objects : (locks : List (SlowId × Lock)) (objects : List ObjId) → All (λ oid. owner_in locks oid ≡ None) objects → (oid : ObjId) → has_object oid objects ≡ true → owner_in locks oid ≡ None

@@ -1,3 +1,4 @@
+//! The slow commits that are over, by coordinator.
 ghost use Rattle.std.specs.Prelude.{◌≡◌, ◌<◌, ◌≤◌, ◌||◌, [], ℕ, nat_eq, false, length, All, IfOk, OnOk, IsOk};
 ghost use Rattle.walter_base.specs.declared.names.SiteId.{SiteId as Site};
 ghost use Rattle.walter_locks.specs.Parts.{is_dead, room_of};

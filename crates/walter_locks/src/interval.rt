@@ -1,3 +1,4 @@
+//! The numbers from a first to a last.
 ghost use Rattle.std.specs.Prelude.{◌≡◌, ◌+◌, nat_eq, nat_lt, max, min};
 ghost use Rattle.walter_locks.specs.Intervals.{is_in};
 
@@ -9,6 +10,7 @@ pub struct Interval {
 }
 
 impl Interval {
+    /// The interval of one number.
     pub fn of(number: u64) -> Interval
         ensures { result ≡ record { first = number; last = number } }
     {
@@ -18,6 +20,7 @@ impl Interval {
         }
     }
 
+    /// Whether the number is in it. Its first and its last are.
     pub fn has(&self, number: u64) -> bool
         ensures { result ≡ is_in number self.now }
     {

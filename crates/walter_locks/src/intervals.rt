@@ -1,3 +1,4 @@
+//! Numbers, kept as the intervals that they make.
 ghost use Rattle.std.specs.Prelude.{◌≡◌, ◌<◌, ◌≤◌, ◌+◌, ◌++◌, ◌||◌, [], ℕ, nat_eq, nat_lt, not, take, drop, position, slice_get, vec_len, vec_capacity, OnOk, IsOk};
 ghost use Rattle.walter_locks.specs.Intervals.{is_among};
 ghost use Rattle.walter_locks.specs.Adding.{is_before, joined_at, put_at};
@@ -34,6 +35,7 @@ impl Intervals {
         }
     }
 
+    /// Whether the number is among them. It looks at one interval after another.
     pub fn has(&self, number: u64) -> bool
         ensures { result ≡ is_among number self.now.intervals }
     {

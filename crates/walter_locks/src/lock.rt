@@ -1,3 +1,4 @@
+//! The name of a slow commit, and its lock.
 ghost use Rattle.std.specs.Prelude.{◌≡◌, ◌≤◌, not};
 ghost use Rattle.indexmap.specs.IndexMap.{spare};
 ghost use Rattle.walter_base.specs.Names.{same_site};

@@ -1,3 +1,4 @@
+//! Which objects are locked, by whom and for which slow commit; and which slow commits are over.
 ghost use Rattle.std.specs.Prelude.{◌≡◌, ◌<◌, ◌≤◌, ◌↔◌, ℕ, nat_eq, length, true, false, Some, None, All, Contains, IsTrue, IfOk, OnOk, IsOk, List, if◌then◌else◌};
 ghost use Rattle.walter_base.specs.declared.names.ObjId.{ObjId as Object};
 ghost use Rattle.walter_base.specs.declared.names.SiteId.{SiteId as Site};

@@ -1,3 +1,4 @@
+//! The log of a site: its transactions in order, by number and by name.
 ghost use Rattle.std.specs.Prelude.{◌≡◌, ◌<◌, ◌≤◌, ◌+◌, ◌++◌, ◌∷◌, [], IfOk, OnOk, IsOk};
 ghost use Rattle.std.specs.Option.{option_copied};
 ghost use Rattle.walter_base.specs.declared.names.SiteId.{SiteId as Site};

@@ -1,3 +1,4 @@
+//! Where in the log the transactions of each site stand.
 ghost use Rattle.std.specs.Prelude.{◌≡◌, ◌<◌, ◌≤◌, ◌+◌, ◌++◌, ◌∷◌, [], length, IfOk, OnOk, IsOk, if◌then◌else◌};
 ghost use Rattle.walter_base.specs.declared.names.SiteId.{SiteId as Site};
 ghost use Rattle.walter_base.specs.Names.{same_site};

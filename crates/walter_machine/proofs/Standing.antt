@@ -1,5 +1,5 @@
 -- How a machine stands behind a step, a fault, and what came to nothing.
-use Rattle.std.proofs.Common.{◌≡◌, ◌∙◌, ◌<◌, ◌≤◌, ◌+◌, ◌∷◌, [], ℕ, Bool, true, false, List, length, Option, Some, None, refl, sym, ap, subst, arith, ◌⊎◌, inl, inr}
+use Rattle.std.proofs.Common.{◌≡◌, ◌∙◌, ◌<◌, ◌+◌, ◌∷◌, [], ℕ, Bool, true, false, List, length, Option, Some, None, refl, sym, ap, subst, arith, ◌⊎◌, inl, inr}
 use Rattle.std.specs.Prelude.{IfSome, IsSome, is_some}
 use Rattle.std.proofs.lemmas.List.{length-append}
 use Rattle.walter_base.specs.declared.catalog.Catalog.{Catalog}
@@ -146,19 +146,7 @@ settled_told catalog i S rec all down flies =
     (lost_recorded catalog i S.knows rec) refl (no_up S.up down)
     (λ d. lost_recorded catalog i S.knows rec ∙ ap (recorded catalog i (Some rec)) (all.rests down))
 
--- so many are those that there were, where none is in flight, or no more are found than were known
-pub found_none : (S : Standing) (found : ℕ) (flight : Option Record) → flight ≡ S.flight → flight ≡ None
-    → AreFound S found → found ≡ length S.records
-found_none S found flight is none (inl same) = same
-found_none S found flight is none (inr more) =
-    absurd (let gone = subst (λ (f : Option Record). IsSome f) (sym is ∙ none) more.0 in cc)
-
-pub found_few : (S : Standing) (found records : ℕ) → records ≡ length S.records → found ≤ records → AreFound S found
-    → found ≡ length S.records
-found_few S found records known few (inl same) = same
-found_few S found records known few (inr more) = absurd (omega (arith, known, few, more.1))
-
--- and else the one in flight behind them
+-- where more are found than were known, the one in flight stands behind them
 pub found_more : (S : Standing) (found records : ℕ) → records ≡ length S.records → records < found → AreFound S found
     → found ≡ length S.records + 1
 found_more S found records known many (inl same) = absurd (omega (arith, known, many, same))

@@ -1,3 +1,4 @@
+//! Which clients are owed the news that a stop ended their transaction.
 ghost use Rattle.std.specs.Prelude.{◌≡◌, ◌≤◌, ℕ, length, None, OnOk};
 ghost use Rattle.indexmap.specs.IndexMap.{spare};
 ghost use Rattle.walter_base.specs.ByClient.{of_client};

@@ -1,3 +1,4 @@
+//! What a site that goes down loses.
 ghost use Rattle.std.specs.Prelude.{◌≡◌, List, ℕ, None, IfSome};
 ghost use Rattle.walter_machine.specs.Comings.{IsFall};
 ghost use Rattle.walter_machine.specs.Debts.{sessions_lost};

@@ -1,3 +1,4 @@
+//! A site apart from where its records lie.
 ghost use Rattle.std.specs.Prelude.{◌≡◌, ◌≢◌, ◌≤◌, ◌<◌, ◌+◌, ◌^◌, ℕ, None, Some, false, true, is_some, vec_len, IfSome, IfNone, IsSome, IfOk, OnErr, OnOk};
 ghost use Rattle.walter_base.specs.contracts.catalog.Catalog as coded_catalog;
 ghost use Rattle.walter_base.specs.Sizes.{CanBeRecorded};

@@ -1,3 +1,4 @@
+//! Places on the heap for records in flight, taken before an event comes.
 ghost use Rattle.std.specs.Prelude.{◌≡◌, ◌+◌, ◌<◌, ◌≤◌, vec_len, OnOk};
 
 use std::alloc::Global;

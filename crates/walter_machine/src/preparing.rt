@@ -1,3 +1,4 @@
+//! Makes ready what an event is to come to.
 ghost use Rattle.std.specs.Prelude.{◌≡◌, ◌≢◌, ◌≤◌, ◌<◌, ◌+◌, ◌^◌, ℕ, [], map, true, is_some, All, IfOk, IsSome, OnErr, OnOk, Option, Some, None};
 ghost use Rattle.walter_base.specs.declared.names.Tid.{Tid as Named};
 ghost use Rattle.walter_base.specs.Vectors.{most_sites};

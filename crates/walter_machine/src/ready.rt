@@ -1,3 +1,4 @@
+//! What is to come of an event, with all that it takes.
 ghost use Rattle.std.specs.Prelude.{◌≡◌, ◌+◌, Some, None, false, IfOk, IfErr, IfSome, IfNone, Err};
 ghost use Rattle.walter_machine.specs.Steps.{record_of, step_by};
 ghost use Rattle.walter_rules.specs.Knowledge.{Knowledge};

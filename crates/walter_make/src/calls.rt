@@ -1,3 +1,4 @@
+//! The calls that a number makes, and the steps that play them.
 ghost use Rattle.std.specs.Prelude.{◌≡◌, ◌≤◌, All, IfOk};
 ghost use Rattle.walter_request.specs.Requests.{FitsFrame};
 ghost use Rattle.walter_make.specs.Calls.{made_calls};

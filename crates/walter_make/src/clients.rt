@@ -1,3 +1,4 @@
+//! The clients that make these calls, with what each sends.
 ghost use Rattle.std.specs.Prelude.{◌≡◌, ◌≤◌, ◌<◌, ◌++◌, All, OnOk, IfOk};
 ghost use Rattle.walter_request.specs.Requests.{FitsFrame};
 ghost use Rattle.walter_make.specs.Made.{frame, bytes_of, made_clients};

@@ -1,3 +1,4 @@
+//! Draws who calls next, and what that client asks.
 use crate::requests::draw_request;
 use rand_core::utils::NextWord;
 use rand_pcg::Lcg64Xsh32;
@@ -44,6 +45,8 @@ impl Draws {
         }
     }
 
+    /// Draws a client, and then what it asks, which goes by how often it called before. Where memory is
+    /// wanting, words are drawn and the call is counted all the same.
     pub fn next_call(&mut self, alloc: Global) -> Mem<ClientCall>
         requires { All (λ n. n + 1 < 2 ^ 32) self.old.counts }
         ensures call { IfOk result (λ call. call ≡ call_of self.old) }

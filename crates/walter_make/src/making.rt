@@ -1,3 +1,4 @@
+//! Makes a scenario of a number.
 ghost use Rattle.std.specs.Prelude.{◌≡◌, ◌≤◌, ◌<◌, length, All, IfOk};
 ghost use Rattle.walter_base.specs.Vectors.{most_sites};
 ghost use Rattle.walter_scenario.specs.Parts.{IsAreas, IsArm, IsRoom, IsStep};

@@ -1,3 +1,4 @@
+//! Draws what a client asks.
 ghost use Rattle.std.specs.Prelude.{◌≡◌, ◌<◌, IfOk};
 ghost use Rattle.walter_link.specs.Choices.{word, next};
 ghost use Rattle.walter_request.specs.Requests.{FitsFrame};

@@ -1,3 +1,4 @@
+//! Laws of the spellings of names: each name has one, and names of one kind are spelled by as many bytes.
 ghost use Rattle.std.specs.Prelude.{◌≡◌, ◌++◌, ℕ, List, length};
 ghost use Rattle.walter_base.specs.declared.names.ObjId.{ObjId};
 ghost use Rattle.walter_base.specs.declared.names.Tid.{Tid};

@@ -1,3 +1,4 @@
+//! Names as bytes, field by field. Where bytes are wanting, the first fields of a name may have been read.
 ghost use Rattle.std.specs.Prelude.{◌≡◌, ◌↔◌, ◌+◌, ◌≤◌, ◌<◌, ◌++◌, length, IsErr, IfOk};
 ghost use Rattle.walter_fields.specs.Cursors.{Takes};
 ghost use Rattle.walter_names.specs.Names.{object_spelled, tid_spelled, version_spelled, member_spelled, IsObject, IsTid, IsVersion, IsMember};
@@ -5,6 +6,7 @@ ghost use Rattle.walter_names.specs.Names.{object_spelled, tid_spelled, version_
 use walter_base::{ObjId, SiteId, Tid, Version};
 use walter_fields::{Appender, Cursor, Short};
 
+/// The container in four bytes, and the number in eight.
 #[tactic(auto, unfolding(walter_fields::specs::Spellings::number_spelled))]
 pub fn read_object(cursor: &mut Cursor) -> Result<ObjId, Short>
     ensures taken { IfOk result (λ oid. Takes cursor.old cursor.new (object_spelled oid)) }
@@ -17,6 +19,7 @@ pub fn read_object(cursor: &mut Cursor) -> Result<ObjId, Short>
     })
 }
 
+/// The container in four bytes, and the number in eight.
 pub fn write_object(out: &mut Appender, oid: ObjId)
     requires { 12 ≤ out.old.room }
     ensures bytes { out.new.bytes ≡ out.old.bytes ++ object_spelled oid }
@@ -27,6 +30,7 @@ pub fn write_object(out: &mut Appender, oid: ObjId)
     out.u64(oid.local);
 }
 
+/// The site in one byte, the epoch in four, and the number in eight.
 #[tactic(auto, unfolding(walter_fields::specs::Spellings::number_spelled))]
 pub fn read_tid(cursor: &mut Cursor) -> Result<Tid, Short>
     ensures taken { IfOk result (λ tid. Takes cursor.old cursor.new (tid_spelled tid)) }
@@ -40,6 +44,7 @@ pub fn read_tid(cursor: &mut Cursor) -> Result<Tid, Short>
     })
 }
 
+/// The site in one byte, the epoch in four, and the number in eight.
 pub fn write_tid(out: &mut Appender, tid: Tid)
     requires { 13 ≤ out.old.room }
     ensures bytes { out.new.bytes ≡ out.old.bytes ++ tid_spelled tid }
@@ -51,6 +56,7 @@ pub fn write_tid(out: &mut Appender, tid: Tid)
     out.u64(tid.number);
 }
 
+/// The site in one byte, and the number of the commit in eight.
 #[tactic(auto, unfolding(walter_fields::specs::Spellings::number_spelled))]
 pub fn read_version(cursor: &mut Cursor) -> Result<Version, Short>
     ensures taken { IfOk result (λ version. Takes cursor.old cursor.new (version_spelled version)) }
@@ -63,6 +69,7 @@ pub fn read_version(cursor: &mut Cursor) -> Result<Version, Short>
     })
 }
 
+/// The site in one byte, and the number of the commit in eight.
 pub fn write_version(out: &mut Appender, version: Version)
     requires { 9 ≤ out.old.room }
     ensures bytes { out.new.bytes ≡ out.old.bytes ++ version_spelled version }
@@ -83,6 +90,7 @@ pub fn read_member(cursor: &mut Cursor) -> Result<(ObjId, u64), Short>
     Ok((read_object(cursor)?, cursor.u64()?))
 }
 
+/// A set, and an id in it: the object in twelve bytes, and the id in eight.
 pub fn write_member(out: &mut Appender, oid: ObjId, id: u64)
     requires { 20 ≤ out.old.room }
     ensures bytes { out.new.bytes ≡ out.old.bytes ++ member_spelled oid id }

@@ -1,3 +1,4 @@
+//! The objects that a transaction writes, rising.
 ghost use Rattle.std.specs.Prelude.{◌≡◌, ◌≤◌, ◌↔◌, IsTrue, length, slice_get, Some, IfOk, OnOk};
 ghost use Rattle.walter_objects.specs.Onto.{objects_onto, place_in};
 ghost use Rattle.walter_rules.specs.Objects.{objects_of, with_object};

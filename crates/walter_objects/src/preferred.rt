@@ -1,3 +1,4 @@
+//! At which sites objects are preferred.
 ghost use Rattle.std.specs.Prelude.{◌≡◌, IfOk};
 ghost use Rattle.walter_base.specs.Names.{same_site};
 ghost use Rattle.walter_objects.specs.Preferred.{home, objects_among, participants_among, are_local_among, is_home_among, takes_part};

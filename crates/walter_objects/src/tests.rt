@@ -1,3 +1,4 @@
+//! Whether updates, locks and sites fit the catalog.
 ghost use Rattle.std.specs.Prelude.{◌≡◌};
 ghost use Rattle.walter_objects.specs.Preferred.{is_lockable_at, are_lockable_at};
 ghost use Rattle.walter_rules.specs.Declarations.{is_of_kind, is_declared, are_declared};

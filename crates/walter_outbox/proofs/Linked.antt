@@ -4,7 +4,7 @@ use Rattle.std.specs.Prelude.{All, Contains, slice_index_or, option_map}
 use Rattle.std.proofs.lemmas.Bool.{cases_lt}
 use Rattle.std.proofs.lemmas.List.{append_assoc, length-map, reverse-append}
 use Rattle.std.proofs.lemmas.List.Elements.{All-contains}
-use Rattle.std.proofs.lemmas.Option.{slice_get-map, slice_get_within}
+use Rattle.std.proofs.lemmas.Option.{slice_get-map}
 use mathlib.Core.List.{IsPrefix}
 use Rattle.walter_base.specs.declared.names.SiteId.{SiteId}
 use Rattle.walter_base.specs.declared.packet.Packet.{Packet}
@@ -139,10 +139,6 @@ linked_by sites trails i j ins outs number packet last stamp below is put begins
       lower = omega (arith, next, stamped);
       next = next ∙ ap (λ n. max last n + 1) (sym stamped);
     }
-
--- an element has its place in a list that is as long
-found_below : {X : Type 0} (xs : List X) (k : ℕ) (x : X) (n : ℕ) → slice_get xs k ≡ Some x → length xs ≤ n → k < n
-found_below xs k x n at most = let w = slice_get_within xs k x at in omega (arith, w, most)
 
 none_there : (trails : List (List Entry)) (n : ℕ) → length trails ≤ n → slice_index_or trails n [] ≡ []
 none_there [] n past = refl

@@ -54,17 +54,6 @@ put_here outs to old new post within is more = record {
   ];
 }
 
--- no lane goes to this place
-pub put_nowhere : (outs : List Sending) (to : ℕ) (post : Posted) → length outs ≤ to → HavePutOne outs outs to post
-put_nowhere outs to post past = record {
-  rings = refl;
-  same_mets = refl;
-  each = λ k below.
-      sym (append-nil (put_to outs k))
-      ∙ ap (λ (b : Bool). put_to outs k ++ (if b then post ∷ [] else []))
-      (sym (ne_eqb to k (λ same. absurd (omega (arith, same, past, below)))));
-}
-
 -- the lane at this place is full
 pub put_full : (outs : List Sending) (to : ℕ) (old new : Sending) → to < length outs → old ≡ get_or outs to old
     → new ≡ old → (old.met + 1024 ≤ length old.put) ⊎ (length old.put ≡ 4294967295)

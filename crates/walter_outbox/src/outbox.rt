@@ -1,3 +1,4 @@
+//! What a site puts out goes on its lanes.
 ghost use Rattle.std.specs.Prelude.{◌≡◌, ◌≤◌, ◌<◌, ℕ, length, map};
 ghost use Rattle.walter_packet.specs.Framed.{frame_of};
 ghost use Rattle.walter_outbox.specs.Lanes.{carried_by, met_to, IsPutWhereFree, IsPut, HavePutMore};

@@ -46,10 +46,6 @@ none_below from (e ∷ es) id rising less =
     by_first e es id ∙ ap (λ b. if b then e.1 else number_in es id) (below_apart id e.0 (omega (arith, less, rising.0)))
     ∙ none_below (e.0 + 1) es id rising.1 (omega (arith, less, rising.0))
 
-pub rising_weaker : (from lower : ℕ) (es : List (ℕ × ℤ)) → lower ≤ from → IsRisingFrom from es → IsRisingFrom lower es
-rising_weaker from lower [] less rising = tt
-rising_weaker from lower (e ∷ es) less rising = (omega (arith, less, rising.0), rising.1)
-
 -- entries in pairs that rise
 pub rising_from : (from : ℕ) (es : List (ℕ × ℤ)) → AllPairs (λ a b. a.0 < b.0) es → ((k : ℕ) (d : ℕ × ℤ) → k < length es → from ≤ (get_or es k d).0) → IsRisingFrom from es
 rising_from from [] pairs above = tt

@@ -1,3 +1,4 @@
+//! A set's counts, or one of them, after own updates.
 ghost use Rattle.std.specs.Prelude.{◌≡◌, ◌<◌, ◌≤◌, ◌^◌, ◌+ℤ◌, ◌-ℤ◌, ◌≤ℤ◌, ℕ, pos, length, OnOk, IfOk};
 ghost use Rattle.walter_base.specs.Values.{count_of};
 ghost use Rattle.walter_cset.specs.Tallies.{number_at};

@@ -1,3 +1,4 @@
+//! The law that own updates are laid over earlier ones as if all were one list.
 ghost use Rattle.std.specs.Prelude.{◌≡◌, ◌+ℤ◌, ◌++◌, ℕ, ℤ, List};
 ghost use Rattle.walter_base.specs.declared.names.ObjId.{ObjId};
 ghost use Rattle.walter_base.specs.declared.update.Update.{Update};

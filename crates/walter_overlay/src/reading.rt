@@ -1,3 +1,4 @@
+//! A regular object's value after own updates.
 ghost use Rattle.std.specs.Prelude.{◌≡◌};
 ghost use Rattle.std.specs.Option.{option_copied};
 ghost use Rattle.walter_base.specs.Values.{value_from};

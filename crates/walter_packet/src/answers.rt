@@ -1,3 +1,4 @@
+//! Answers to a PREPARE as bytes, with the conflicts that they name.
 ghost use Rattle.std.specs.Prelude.{◌≡◌, ◌+◌, ◌≤◌, ◌++◌, IfOk, IfErr};
 ghost use Rattle.walter_base.specs.Sizes.{size_of_conflict};
 ghost use Rattle.walter_fields.specs.Cursors.{Takes};

@@ -1,3 +1,4 @@
+//! Reads packets, and takes exactly the spellings among so many sites.
 ghost use Rattle.std.specs.Prelude.{◌≡◌, ◌≢◌, ◌≤◌, IfOk, IfErr, IfSome, IfNone};
 ghost use Rattle.walter_base.specs.Sending.{kind_of};
 ghost use Rattle.walter_base.specs.Vectors.{most_sites};

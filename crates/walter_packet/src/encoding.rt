@@ -1,3 +1,4 @@
+//! Writes packets, and counts the bytes that this takes.
 ghost use Rattle.std.specs.Prelude.{◌≡◌, ◌+◌, ◌≤◌, ◌++◌, IfOk};
 ghost use Rattle.walter_base.specs.Sizes.{size_of_packet, CanBeSent};
 ghost use Rattle.walter_packet.specs.Fields.{fields_spelled};

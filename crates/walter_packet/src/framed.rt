@@ -1,3 +1,4 @@
+//! Bytes that spell a packet, which is decoded anew for each who asks for it.
 ghost use Rattle.std.specs.Prelude.{◌≡◌, ◌≢◌, ◌≤◌, IfOk, IfSome, IfNone};
 ghost use Rattle.walter_base.specs.Sizes.{CanBeSent};
 ghost use Rattle.walter_base.specs.Vectors.{most_sites};

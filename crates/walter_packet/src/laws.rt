@@ -1,3 +1,4 @@
+//! Laws of the spellings of packets: each packet has one, and how long it is.
 ghost use Rattle.std.specs.Prelude.{◌≡◌, ◌≤◌, ℕ, length};
 ghost use Rattle.walter_base.specs.declared.packet.Packet.{Packet};
 ghost use Rattle.walter_base.specs.Sizes.{size_of_packet, CanBeSent};

@@ -1,3 +1,4 @@
+//! The connections of a scenario's clients.
 ghost use Rattle.std.specs.Prelude.{◌≡◌, [], length, IfOk};
 ghost use Rattle.walter_cell.specs.Lines.{IsLine};
 ghost use Rattle.walter_cluster.specs.Builds.{AreUnread};

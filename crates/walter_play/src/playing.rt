@@ -1,3 +1,4 @@
+//! Takes the steps of a script on a bench.
 ghost use Rattle.std.specs.Prelude.{◌≡◌, ◌<◌, ◌≤◌, ◌++◌, ℕ, None, length, All, IfOk, OnOk, OnErr};
 ghost use Rattle.walter_base.specs.Vectors.{most_sites};
 ghost use Rattle.walter_scenario.specs.Parts.{IsArm, IsStep};

@@ -4,7 +4,7 @@ use Rattle.std.specs.Prelude.{Contains, All, AllPairs, flat_map, IsTrue, IfOk, R
 use Rattle.std.proofs.Math.Seq.{drop-cons}
 use Rattle.std.proofs.lemmas.Bool.{false_from_ne_true}
 use Rattle.std.proofs.lemmas.List.{take_more, get_or-drop, get_or_default, take_all}
-use Rattle.std.proofs.lemmas.List.Elements.{All-more, Contains-get_or}
+use Rattle.std.proofs.lemmas.List.Elements.{Contains-get_or}
 use Rattle.std.proofs.lemmas.Option.{slice_get-get_or}
 use Rattle.walter_psi.proofs.Lists.{flat_map-push, slice_get-take}
 use Rattle.std.proofs.lemmas.Bool.{cases_lt}
@@ -84,15 +84,6 @@ version_at steps version found some at x =
           let place : version.seq - 1 ≡ is.0 = omega (arith, is.1) in
           at ∙ ap (λ k. slice_get (commits version.site steps) k) place ∙ is.2,
     )
-
--- what holds of each element so far and of one more
-pub all_more : {X : Type 0} (P : X → Type 0) (xs : List X) (i : ℕ) (x : X) → i < length xs → x ≡ get_or xs i x → All P (take i xs) → P x
-    → All P (take (i + 1) xs)
-all_more P xs i x within is so_far here = All-more P xs i x within so_far (subst P is here)
-
--- what holds of each element holds of one
-pub all_here : {X : Type 0} (P : X → Type 0) (xs : List X) (i : ℕ) (x : X) → i < length xs → x ≡ get_or xs i x → All P xs → P x
-all_here P xs i x within is all = subst P (sym is) (all i x within)
 
 -- what holds of each element of the front up to the end holds of each
 pub all_whole : {X : Type 0} (P : X → Type 0) (xs : List X) (i : ℕ) → length xs ≤ i → All P (take i xs) → All P xs

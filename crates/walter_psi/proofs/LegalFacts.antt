@@ -1,8 +1,8 @@
 -- What holds of every legal history.
-use Rattle.std.proofs.Common.{◌≡◌, ℕ, ◌<◌, List, [], ◌∷◌, ◌++◌, take, refl, ap, sym, ◌∙◌, subst, slice_get, Some, arith, inl, inr}
+use Rattle.std.proofs.Common.{◌≡◌, ℕ, ◌<◌, List, [], ◌∷◌, ◌++◌, take, refl, ap, ◌∙◌, slice_get, Some, arith, inl, inr}
 use Rattle.std.specs.Prelude.{Contains}
 use Rattle.std.proofs.lemmas.List.{append-nil}
-use Rattle.std.proofs.lemmas.List.Elements.{Contains-push, Contains-push_cases}
+use Rattle.std.proofs.lemmas.List.Elements.{Contains-push_cases}
 use Rattle.walter_base.specs.declared.names.SiteId.{SiteId}
 use Rattle.walter_base.specs.declared.names.Tid.{Tid}
 use Rattle.walter_base.specs.declared.transaction.Cause.{Cause}
@@ -13,7 +13,7 @@ use Rattle.walter_psi.specs.Histories.{own_updates, done, committed_updates, giv
 use Rattle.walter_psi.specs.Legal.{IsOver, IsRunning, IsLegal, IsLegalStep}
 use Rattle.walter_psi.proofs.Lists.{Contains-nil, contains_at, slice_get-take, push_induction}
 use Rattle.walter_psi.proofs.StepFacts.{done_none, given_commit, given_none}
-use Rattle.walter_psi.proofs.OneMore.{legal_same, legal_snoc, legal_front, legal_last, own_updates_snoc, committed_updates_snoc}
+use Rattle.walter_psi.proofs.OneMore.{legal_same, legal_front, legal_last, own_updates_snoc, committed_updates_snoc}
 use Rattle.walter_psi.proofs.OneMore.{started_kept, committed_kept, committed_snoc}
 
 -- what holds of no steps, and of one more legal step where it holds of a legal history, holds of every legal history
@@ -88,13 +88,6 @@ committed_updates_kept x steps step next committed =
     ∙ (ap (λ us. committed_updates steps x ++ us) (given_none x step (λ us is. commit_fresh x us steps step next is committed))
     ∙ append-nil (committed_updates steps x))
 
--- what a transaction that is over has done stays
-pub own_updates_kept : (x : Tid) (steps : List Step) (step : Step) → IsLegalStep steps step → IsOver x steps
-    → own_updates x (steps ++ step ∷ []) ≡ own_updates x steps
-own_updates_kept x steps step next over =
-    own_updates_snoc x steps step
-    ∙ (ap (λ us. own_updates x steps ++ us) (done_running x steps step next (λ running. running.1 over)) ∙ append-nil (own_updates x steps))
-
 -- the updates of its commit are what a transaction has committed
 pub committed_updates_of : (x : Tid) (us : List Update) (steps : List Step) → IsLegal steps → Contains steps (Commit x us)
     → committed_updates steps x ≡ us
@@ -107,37 +100,6 @@ committed_updates_of x us = legal_induction (λ steps. Contains steps (Commit x 
           ∙ ap (λ vs. vs ++ given x step) (none_committed x steps (commit_fresh x us steps step next here))
           ∙ ap (λ z. given x z) here ∙ given_commit x us
     ])
-
--- what a transaction has committed is what it has done
-pub committed_updates_own : (x : Tid) (steps : List Step) → IsLegal steps → IsCommitted x steps
-    → committed_updates steps x ≡ own_updates x steps
-committed_updates_own x = legal_induction (λ steps. IsCommitted x steps → committed_updates steps x ≡ own_updates x steps)
-    (λ committed. refl)
-    (λ steps step legal next holds committed. elim ((committed_snoc x steps step).0 committed) [
-      | inl before ↦
-          committed_updates_kept x steps step next before
-          ∙ (holds before ∙ sym (own_updates_kept x steps step next (inl before)))
-      | inr here ↦
-          let stands = subst (λ z. Contains (steps ++ z ∷ []) (Commit x here.0)) (sym here.1) (Contains-push steps (Commit x here.0)) in
-          committed_updates_of x here.0 (steps ++ step ∷ []) (legal_snoc steps step legal next) stands
-          ∙ ((legal_same steps step (Commit x here.0) here.1 next).own
-          ∙ sym (own_updates_snoc x steps step
-          ∙ (ap (λ us. own_updates x steps ++ us) (done_none x step (λ u is. let two = sym here.1 ∙ is in absurd cc))
-          ∙ append-nil (own_updates x steps))))
-    ])
-
--- a transaction commits once
-pub committed_once : (x : Tid) (steps : List Step) (first second : ℕ) (us vs : List Update) → IsLegal steps
-    → slice_get steps first ≡ Some (Commit x us) → slice_get steps second ≡ Some (Commit x vs) → first ≡ second
-committed_once x steps first second us vs legal one other =
-    let no_later = not_after first second us vs one other in
-    let no_sooner = not_after second first vs us other one in
-    omega arith
-  where
-    not_after : (a b : ℕ) (us vs : List Update) → slice_get steps a ≡ Some (Commit x us) → slice_get steps b ≡ Some (Commit x vs) → ¬ (a < b)
-    not_after a b us vs at later l =
-        let sooner = contains_at (take b steps) (Commit x us) a (slice_get-take steps b a l ∙ at) in
-        (legal b (Commit x vs) later).running.1 (inl (us, sooner))
 
 -- a transaction starts once
 pub started_once : (x : Tid) (steps : List Step) (first second : ℕ) (s t : SiteId) → IsLegal steps

@@ -5,7 +5,6 @@ pub mod Snapshots
 pub mod LegalFacts
 pub mod Logs
 pub mod Seen
-pub mod Versions
 pub mod CheckerLists
 pub mod TimestampFacts
 pub mod ReadFacts

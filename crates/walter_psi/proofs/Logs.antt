@@ -13,9 +13,8 @@ use Rattle.walter_psi.specs.declared.step.Step.{Step}
 use Rattle.walter_psi.specs.declared.step.Step.TheVariants.{Start, Op, Read, Commit, Arrive, Abort, Told}
 use Rattle.walter_psi.specs.Histories.{log, logged, commits, commit_of, snapshot, IsCommitted}
 use Rattle.walter_psi.specs.Legal.{IsLegal, IsLegalStep}
-use Rattle.walter_psi.proofs.Lists.{Contains-nil, contains_at, flat_map-push, Contains-flat_map, Contains-flat_map_from}
-use Rattle.walter_psi.proofs.StepFacts.{logged_is, logged_at_most, logged_commit, logged_arrive}
-use Rattle.walter_psi.proofs.StepFacts.{commit_of_is, commit_of_at_most, commit_of_commit}
+use Rattle.walter_psi.proofs.Lists.{Contains-nil, contains_at, flat_map-push, Contains-flat_map}
+use Rattle.walter_psi.proofs.StepFacts.{logged_is, logged_at_most, logged_commit}
 use Rattle.walter_psi.proofs.OneMore.{legal_same, log_snoc, commits_snoc, committed_kept, committed_snoc}
 use Rattle.walter_psi.proofs.Snapshots.{snapshot_logged}
 use Rattle.walter_psi.proofs.LegalFacts.{legal_induction, commit_fresh}
@@ -25,25 +24,6 @@ pub committed_logged : (x : Tid) (steps : List Step) → IsCommitted x steps →
 committed_logged x steps committed =
     Contains-flat_map (logged x.site) steps (Commit x committed.0) x committed.1
     (subst (λ made. Contains made x) (sym (logged_commit x committed.0)) (contains_at (x ∷ []) x 0 refl))
-
--- what arrived at a site stands in its log
-pub arrived_logged : (x : Tid) (s : SiteId) (steps : List Step) → Contains steps (Arrive x s) → Contains (log s steps) x
-arrived_logged x s steps arrived =
-    Contains-flat_map (logged s) steps (Arrive x s) x arrived
-    (subst (λ made. Contains made x) (sym (logged_arrive x s)) (contains_at (x ∷ []) x 0 refl))
-
--- what is committed stands among the commits of its own site
-pub committed_commits : (x : Tid) (steps : List Step) → IsCommitted x steps → Contains (commits x.site steps) x
-committed_commits x steps committed =
-    Contains-flat_map (commit_of x.site) steps (Commit x committed.0) x committed.1
-    (subst (λ made. Contains made x) (sym (commit_of_commit x committed.0)) (contains_at (x ∷ []) x 0 refl))
-
--- what stands among the commits of a site is committed, and of that site
-pub commits_committed : (s : SiteId) (x : Tid) (steps : List Step) → Contains (commits s steps) x → IsCommitted x steps × (x.site ≡ s)
-commits_committed s x steps c =
-    let from = Contains-flat_map_from (commit_of s) steps x c in
-    let commit = commit_of_is x s from.0 from.2 in
-    ((commit.0, subst (λ z. Contains steps z) commit.1 from.1), commit.2)
 
 -- what stands in the log of a site is committed
 pub logged_committed : (s : SiteId) (x : Tid) (steps : List Step) → IsLegal steps → Contains (log s steps) x → IsCommitted x steps
@@ -121,9 +101,3 @@ distinct f one fresh = legal_induction (λ steps. AllPairs (λ x y. x ≢ y) (fl
 -- no transaction stands twice in a log
 pub log_distinct : (s : SiteId) (steps : List Step) → IsLegal steps → AllPairs (λ x y. x ≢ y) (log s steps)
 log_distinct s = distinct (logged s) (logged_at_most s) (log_fresh s)
-
--- no transaction stands twice among the commits of a site
-pub commits_distinct : (s : SiteId) (steps : List Step) → IsLegal steps → AllPairs (λ x y. x ≢ y) (commits s steps)
-commits_distinct s = distinct (commit_of s) (commit_of_at_most s) (λ x steps step legal next here stands.
-    let commit = commit_of_is x s step here in
-    commit_fresh x commit.0 steps step next commit.1 (commits_committed s x steps stands).0)

@@ -1,4 +1,4 @@
--- What one step starts, logs, commits, does and gives.
+-- What one step starts, logs, does and gives.
 use Rattle.std.proofs.Common.{◌≡◌, ◌≢◌, List, [], ◌∷◌, refl, ap, sym, ◌∙◌, Bool, true, false, inl, inr, ◌⊎◌, if◌then◌else◌}
 use Rattle.std.specs.Prelude.{Contains}
 use Rattle.std.proofs.lemmas.Bool.{false_from_ne_true}
@@ -9,7 +9,7 @@ use Rattle.walter_base.specs.Names.{same_site, same_tid}
 use Rattle.walter_base.proofs.NameTests.{same_site-true, same_site_refl, same_tid-true, same_tid_refl}
 use Rattle.walter_psi.specs.declared.step.Step.{Step}
 use Rattle.walter_psi.specs.declared.step.Step.TheVariants.{Start, Op, Read, Commit, Arrive, Abort, Told}
-use Rattle.walter_psi.specs.Histories.{starts, logged, commit_of, done, given}
+use Rattle.walter_psi.specs.Histories.{starts, logged, done, given}
 use Rattle.walter_psi.proofs.Lists.{Contains-nil, Contains-one}
 
 -- a start of the transaction, at whichever site, starts it
@@ -40,10 +40,6 @@ one_or_none false x = inl refl
 pub logged_commit : (x : Tid) (us : List Update) → logged x.site (Commit x us) ≡ x ∷ []
 logged_commit x us = rw (same_site_refl x.site) refl
 
--- an arrival logs its transaction at its site
-pub logged_arrive : (x : Tid) (site : SiteId) → logged site (Arrive x site) ≡ x ∷ []
-logged_arrive x site = rw (same_site_refl site) refl
-
 -- a step that logs a transaction is its commit, at its own site, or its arrival
 pub logged_is : (x : Tid) (s : SiteId) (step : Step) → Contains (logged s step) x
     → ((us : List Update) × (step ≡ Commit x us) × (x.site ≡ s)) ⊎ (step ≡ Arrive x s)
@@ -69,33 +65,6 @@ logged_at_most s (Op x u) = inl refl
 logged_at_most s (Read x oid answer) = inl refl
 logged_at_most s (Abort x cause) = inl refl
 logged_at_most s (Told x what) = inl refl
-
--- a commit is one of the transaction's site
-pub commit_of_commit : (x : Tid) (us : List Update) → commit_of x.site (Commit x us) ≡ x ∷ []
-commit_of_commit x us = rw (same_site_refl x.site) refl
-
--- a step that commits a transaction of the site is a commit of it
-pub commit_of_is : (x : Tid) (s : SiteId) (step : Step) → Contains (commit_of s step) x
-    → (us : List Update) × (step ≡ Commit x us) × (x.site ≡ s)
-commit_of_is x s (Commit y us) c =
-    let found = found_if (same_site y.site s) y x c in
-    (us, ap (λ z. Commit z us) found.1, sym (ap (λ (z : Tid). z.site) found.1) ∙ same_site-true y.site s found.0)
-commit_of_is x s (Arrive y site) c = absurd (Contains-nil x c)
-commit_of_is x s (Start y site) c = absurd (Contains-nil x c)
-commit_of_is x s (Op y u) c = absurd (Contains-nil x c)
-commit_of_is x s (Read y oid answer) c = absurd (Contains-nil x c)
-commit_of_is x s (Abort y cause) c = absurd (Contains-nil x c)
-commit_of_is x s (Told y what) c = absurd (Contains-nil x c)
-
--- a step commits one transaction at most
-pub commit_of_at_most : (s : SiteId) (step : Step) → (commit_of s step ≡ []) ⊎ ((x : Tid) × (commit_of s step ≡ x ∷ []))
-commit_of_at_most s (Commit x us) = one_or_none (same_site x.site s) x
-commit_of_at_most s (Arrive x site) = inl refl
-commit_of_at_most s (Start x site) = inl refl
-commit_of_at_most s (Op x u) = inl refl
-commit_of_at_most s (Read x oid answer) = inl refl
-commit_of_at_most s (Abort x cause) = inl refl
-commit_of_at_most s (Told x what) = inl refl
 
 -- an op of the transaction does its update
 pub done_op : (x : Tid) (u : Update) → done x (Op x u) ≡ u ∷ []

@@ -1,3 +1,4 @@
+//! Laws of a history to whose end a step comes.
 ghost use Rattle.std.specs.Prelude.{◌≡◌, ◌↔◌, ◌⊎◌, List, [], ◌∷◌, ◌++◌};
 ghost use Rattle.walter_base.specs.declared.names.SiteId.{SiteId};
 ghost use Rattle.walter_base.specs.declared.names.Tid.{Tid};

@@ -1,3 +1,4 @@
+//! The properties that define parallel snapshot isolation: every legal history has them.
 ghost use Rattle.std.specs.Prelude.{List};
 ghost use Rattle.walter_psi.specs.declared.step.Step.{Step};
 ghost use Rattle.walter_psi.specs.Legal.{IsLegal};

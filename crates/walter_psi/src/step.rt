@@ -1,3 +1,4 @@
+//! The steps of a history, and what reads and clients are answered in it.
 use walter_base::{Cause, Counts, ObjId, SharedBytes, SiteId, Tid, Update, Updates, Version};
 
 /// What a read answered.

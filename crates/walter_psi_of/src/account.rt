@@ -1,3 +1,4 @@
+//! What the entries so far tell of sessions and commits, as far as later steps need it.
 ghost use Rattle.std.specs.Prelude.{◌≡◌, ◌-◌, ◌++◌, ◌∷◌, [], ℕ, not, filter, slice_get, List, Option, Result, false, OnOk};
 ghost use Rattle.walter_base.specs.declared.catalog.Catalog.{Catalog};
 ghost use Rattle.walter_base.specs.declared.message.BadFrame.{BadFrame};

@@ -1,3 +1,4 @@
+//! The step that the answer to a call spells.
 ghost use Rattle.std.specs.Prelude.{◌≡◌, IfOk, option_map};
 ghost use Rattle.std.specs.Option.{option_to_list};
 ghost use Rattle.walter_base.specs.declared.names.SiteId.{SiteId};

@@ -1,3 +1,4 @@
+//! The step that a record spells.
 ghost use Rattle.std.specs.Prelude.{◌≡◌, IfOk};
 ghost use Rattle.std.specs.Option.{option_to_list};
 ghost use Rattle.walter_base.specs.declared.names.SiteId.{SiteId};

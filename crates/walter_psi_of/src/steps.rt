@@ -1,3 +1,4 @@
+//! The history that a merge spells, entry by entry.
 ghost use Rattle.std.specs.Prelude.{◌≡◌, ◌++◌, IfOk, OnOk};
 ghost use Rattle.std.specs.Option.{option_to_list};
 ghost use Rattle.walter_base.specs.declared.catalog.Catalog.{Catalog};

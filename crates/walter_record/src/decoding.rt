@@ -1,3 +1,4 @@
+//! Reads records, and takes exactly the spellings of a format.
 ghost use Rattle.std.specs.Prelude.{◌≡◌, ◌≢◌, ◌≤◌, IfOk, IfErr, IfSome, IfNone};
 ghost use Rattle.walter_base.specs.Sizes.{most_in};
 ghost use Rattle.walter_base.specs.declared.message.Record.{Record};

@@ -1,3 +1,4 @@
+//! Writes records, and counts the bytes that this takes.
 ghost use Rattle.std.specs.Prelude.{◌≡◌, ◌+◌, ◌≤◌, ◌++◌, IfOk};
 ghost use Rattle.walter_base.specs.Sizes.{size_of_record, CanBeRecorded};
 ghost use Rattle.walter_record.specs.Fields.{kind_of, fields_spelled};

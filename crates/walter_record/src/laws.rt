@@ -1,3 +1,4 @@
+//! Laws of the spellings of records: each record has one, and how long it is.
 ghost use Rattle.std.specs.Prelude.{◌≡◌, ◌≤◌, ℕ, length};
 ghost use Rattle.walter_base.specs.declared.format.Format.{Format};
 ghost use Rattle.walter_base.specs.declared.message.Record.{Record};

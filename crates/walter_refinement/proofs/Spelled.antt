@@ -250,12 +250,6 @@ done_or_live_grow owns more counts higher h s grow rise (inl committed) = inl co
 done_or_live_grow owns more counts higher h s grow rise (inr l) =
     inr (live_grow owns more counts higher h s grow rise l)
 
--- a transaction that isn't committed is open
-pub live_undone : (owns : SiteId → List Held) (counts : SiteId → SiteId → ℕ) (h : List Step) (s : Session)
-    → IsDoneOrLive owns counts h s → ¬ IsCommitted s.tid h → IsLive owns counts h s
-live_undone owns counts h s (inl committed) fresh = absurd (fresh committed)
-live_undone owns counts h s (inr l) fresh = l
-
 -- either way it is started
 pub session_started : (owns : SiteId → List Held) (counts : SiteId → SiteId → ℕ) (h : List Step) (s : Session)
     → IsLegal h → IsDoneOrLive owns counts h s → IsStarted s.tid h

@@ -1,3 +1,4 @@
+//! Right and linked trails spell legal histories; and laws of their commits and aborts.
 ghost use Rattle.std.specs.Prelude.{List, reverse};
 ghost use Rattle.walter_base.specs.declared.catalog.Catalog.{Catalog};
 ghost use Rattle.walter_base.specs.declared.names.SiteId.{SiteId};

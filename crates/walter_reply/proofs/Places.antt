@@ -12,7 +12,7 @@ use Rattle.walter_fields.specs.Spellings.{IsBytes, number_spelled, block_spelled
 use Rattle.walter_fields.proofs.Longest.{IsLongest, one_longest}
 use Rattle.walter_fields.proofs.Numbers.{number_spelled-byte}
 use Rattle.walter_fields.proofs.Readings.{left_of_whole}
-use Rattle.walter_reply.specs.Replies.{reply_spelled, cause_number, cause_fields, level_number, refusal_number, refusal_fields, IsReply, Spells, IsKind, StandsForNothing, IsUnknown, IsBadFrame, kind, flag, cause, level, refusal, IsBadSet, empty, unknown, set, short, behind}
+use Rattle.walter_reply.specs.Replies.{reply_spelled, cause_number, cause_fields, level_number, refusal_number, refusal_fields, IsReply, Spells, IsKind, StandsForNothing, IsBadFrame, kind, flag, cause, level, refusal, IsBadSet, empty, unknown, set, short, behind}
 use Rattle.walter_reply.specs.Sets.{IsBadCounts}
 use Rattle.walter_reply.proofs.Sets.{no_bad_counts, cut_counts, one_bad_counts}
 use Rattle.walter_reply.specs.Stops.{IsFront}
@@ -27,9 +27,6 @@ bad_front (byte ∷ body) cut = short cut.more cut.reply (λ e. cc) cut.some cut
 
 pub bad_cut : (cursor : Remainder) (body : List ℕ) → cursor ≡ whole_of body → IsBytes body → (IsBytes cursor.left → IsFront cursor.left) → IsBadFrame body (length body)
 bad_cut cursor body whole bytes stop = let is = left_of_whole cursor body whole in bad_front body (subst IsFront is (stop (subst IsBytes (sym is) bytes)))
-
-pub bad_byte : (cursor : Remainder) (body : List ℕ) (at : ℕ) → cursor ≡ whole_of body → IsUnknown cursor.left at → IsBadFrame body at
-bad_byte cursor body at whole is = unknown (subst (λ t. IsUnknown t at) (left_of_whole cursor body whole) is)
 
 pub bad_rest : (cursor after : Remainder) (body : List ℕ) (reply : Reply) (at : ℕ) → cursor ≡ whole_of body → IsReply reply → Takes cursor after (reply_spelled reply) → after.left ≢ []
     → at + length after.left ≡ after.end → IsBadFrame body at

@@ -1,3 +1,4 @@
+//! Reads replies, and takes exactly the spellings.
 ghost use Rattle.std.specs.Prelude.{◌≡◌, ◌≢◌, ◌↔◌, ◌≤◌, ◌<◌, ◌++◌, ℕ, pos, length, flat_map, AllPairs, IsTrue, IfOk, IfErr};
 ghost use Rattle.walter_fields.specs.Spellings.{number_spelled};
 ghost use Rattle.walter_fields.specs.Cursors.{Takes};

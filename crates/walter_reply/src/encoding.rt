@@ -1,3 +1,4 @@
+//! Writes replies, and counts the bytes that this takes.
 ghost use Rattle.std.specs.Prelude.{◌≡◌, ◌+◌, ◌*◌, ◌<◌, ◌≤◌, ◌^◌, ◌++◌, length, IfOk};
 ghost use Rattle.walter_reply.specs.Replies.{cause_number, cause_spelled, level_number, refusal_number, refusal_fields, refusal_spelled, reply_spelled, FitsFrame};
 ghost use Rattle.walter_reply.specs.Sets.{entry_spelled, counts_spelled};

@@ -1,3 +1,4 @@
+//! Why a body gives no reply.
 ghost use Rattle.std.specs.Prelude.{◌≡◌};
 ghost use Rattle.walter_reply.specs.declared.fault.Stop.TheVariants.{Cut};
 

@@ -1,3 +1,4 @@
+//! Laws of the spellings of replies, and which of them fit a frame.
 ghost use Rattle.std.specs.Prelude.{◌≡◌, ◌↔◌, ℕ, List, length};
 ghost use Rattle.walter_base.specs.Sizes.{IsShortReply};
 ghost use Rattle.walter_base.specs.declared.message.Reply.{Reply};

@@ -28,12 +28,6 @@ list_behind-append some (x ∷ xs) ys =
     always [] = refl
     always (z ∷ zs) = refl
 
-pub has_pieces-append : (some : Bool) (xs ys : List (List ℕ))
-    → has_pieces some (xs ++ ys) ≡ has_pieces (has_pieces some xs) ys
-has_pieces-append some [] ys = refl
-has_pieces-append some (x ∷ xs) [] = refl
-has_pieces-append some (x ∷ xs) (y ∷ ys) = refl
-
 -- the pieces from one element on
 pub list_behind-next : {X : Type 0} (f : X → List ℕ) (xs : List X) (i : ℕ) (d : X) → i < length xs
     → list_behind (nat_lt 0 i) (map f (drop i xs))

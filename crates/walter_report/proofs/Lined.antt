@@ -16,14 +16,6 @@ pub parts_text-flat : (parts : List Part) → parts_text parts ≡ flat_map part
 parts_text-flat [] = refl
 parts_text-flat (part ∷ parts) = parts_flat (part_text part) parts
 
--- a text stands before all of them
-pub behind_text : (text : List ℕ) (part : Part) (parts : List Part)
-    → text ++ parts_text (part ∷ parts) ≡ parts_behind (text ++ part_text part) parts
-behind_text text part parts =
-    ap (λ t. text ++ t) (parts_flat (part_text part) parts)
-    ∙ sym (append_assoc text (part_text part) (flat_map part_text parts))
-    ∙ sym (parts_flat (text ++ part_text part) parts)
-
 -- the line of a site, and those of the sites behind it
 pub site_next : (sites : ℕ) (trails : List (List Entry)) (k : ℕ) (trail here : List Entry) (n : ℕ)
     → k < length trails → trail ≡ get_or trails k trail → here ≡ trail → n ≡ sites

@@ -1,3 +1,4 @@
+//! The lines of the clients, with the replies to each.
 ghost use Rattle.std.specs.Prelude.{◌≤◌, length, flat_map, All};
 ghost use Rattle.hex.specs.Hex.{encode_lower};
 ghost use Rattle.walter_reply.specs.Replies.{FitsFrame};

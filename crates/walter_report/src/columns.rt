@@ -1,3 +1,4 @@
+//! How many replies of each kind there are.
 ghost use Rattle.std.specs.Prelude.{◌≡◌, ◌≤◌, ◌<◌, ◌+◌, ◌^◌, ◌∷◌, [], ℕ, length, All};
 ghost use Rattle.walter_report.specs.Adding.{one_more};
 ghost use Rattle.walter_report.specs.Summaries.{call_reply, call_replies, all_replies, column, in_columns, CountMore};

@@ -1,3 +1,4 @@
+//! Why a text is not written to its end.
 ghost use Rattle.std.specs.Prelude.{◌≡◌};
 
 use thiserror::Error;

@@ -1,3 +1,4 @@
+//! Bytes that are to become digits.
 ghost use Rattle.std.specs.Prelude.{◌≡◌, [], IfOk};
 ghost use Rattle.walter_base.specs.Sizes.{CanBeRecorded};
 ghost use Rattle.walter_record.specs.Spelling.{record_spelled};
@@ -44,7 +45,7 @@ impl Frame {
         self.bytes.as_slice()
     }
 
-    // A reply as its client gets it, in the place of what was written.
+    /// A reply as its client gets it, in the place of what was written.
     #[tactic(auto, using(walter_reply::proofs::Lengths::lengths))]
     pub fn write_reply(&mut self, reply: &Reply)
         requires { FitsFrame reply.now }
@@ -55,7 +56,7 @@ impl Frame {
         walter_reply::append(&mut self.bytes, reply);
     }
 
-    // A record as a journal has it, in the place of what was written.
+    /// A record as a journal has it, in the place of what was written.
     pub fn write_record(&mut self, stable: &Record)
         requires { CanBeRecorded stable.now }
         ensures { self.new ≡ record_spelled stable.now }

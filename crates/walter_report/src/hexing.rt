@@ -1,3 +1,4 @@
+//! Bytes as hex digits.
 ghost use Rattle.std.specs.Prelude.{◌≤◌, length};
 ghost use Rattle.hex.specs.Hex.{encode_lower};
 ghost use Rattle.walter_report.specs.Pages.{Puts};

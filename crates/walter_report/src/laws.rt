@@ -1,3 +1,4 @@
+//! The law that a site's line tells how the site stands.
 ghost use Rattle.std.specs.Prelude.{◌≡◌, List, reverse};
 ghost use Rattle.walter_base.specs.declared.catalog.Catalog.{Catalog};
 ghost use Rattle.walter_base.specs.declared.names.SiteId.{SiteId};

@@ -1,3 +1,4 @@
+//! Lists within a line.
 ghost use Rattle.std.specs.Prelude.{◌≡◌, ◌++◌, map};
 ghost use Rattle.std.specs.Fmt.{decimal};
 ghost use Rattle.walter_report.specs.Lists.{comma_behind};

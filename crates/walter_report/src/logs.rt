@@ -1,3 +1,4 @@
+//! The log of a site: the commits that stand there, in order.
 ghost use Rattle.std.specs.Prelude.{◌≡◌, ◌++◌, [], ◌∷◌, true, length, codes, OnOk};
 ghost use Rattle.walter_report.specs.Lists.{has_pieces, list_behind};
 ghost use Rattle.walter_report.specs.Pages.{Puts};

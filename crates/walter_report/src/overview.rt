@@ -1,3 +1,4 @@
+//! What the line of one site tells, from its trail.
 ghost use Rattle.std.specs.Prelude.{◌≡◌, ◌≤◌, ◌<◌, ◌+◌, ◌^◌, ◌∷◌, ◌++◌, ℕ, Bool, List, [], Some, false, length, All, IfOk};
 ghost use Rattle.walter_base.specs.declared.message.Record.{Record as Stable};
 ghost use Rattle.walter_base.specs.declared.names.SiteId.{SiteId as Site};
@@ -29,7 +30,7 @@ pub(crate) struct Overview {
 impl Overview {
     ghost use Rattle.walter_report.specs.Overviews.{Tells};
 
-    // What a trail tells, from one look at each entry.
+    /// What a trail tells, from one look at each entry.
     pub fn from_trail(alloc: Global, sites: u8, site: usize, trail: &[Entry]) -> Mem<Overview>
         ensures { IfOk result (λ overview. Tells overview sites (site_at site) (is_up trail.now) (records trail.now)) }
     {

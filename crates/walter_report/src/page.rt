@@ -1,3 +1,4 @@
+//! Bytes on their way to a sink.
 ghost use Rattle.std.specs.Prelude.{◌≡◌, ◌≤◌, [], length, IfOk, OnOk};
 ghost use Rattle.walter_report.specs.Pages.{Puts};
 
@@ -35,7 +36,7 @@ impl Page {
         })
     }
 
-    // Puts bytes behind those that wait.
+    /// Puts bytes behind those that wait.
     pub fn put<K: Sink>(&mut self, sink: &mut K, bytes: &[u8]) -> Result<(), Failed>
         ensures { Puts K.holds K.faults sink.old sink.new self.old self.new bytes.now result }
     {
@@ -59,7 +60,7 @@ impl Page {
         Ok(())
     }
 
-    // Writes the bytes that wait.
+    /// Writes the bytes that wait.
     pub fn flush<K: Sink>(&mut self, sink: &mut K) -> Result<(), Failed>
         ensures put { Puts K.holds K.faults sink.old sink.new self.old self.new [] result }
         ensures none { OnOk result (self.new ≡ []) }

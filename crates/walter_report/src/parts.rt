@@ -1,3 +1,4 @@
+//! The parts that a line is made of.
 ghost use Rattle.walter_report.specs.Pages.{Puts};
 ghost use Rattle.walter_report.specs.Parts.{part_text, parts_text};
 

@@ -1,3 +1,4 @@
+//! The replies to each client, found in the trails.
 ghost use Rattle.std.specs.Prelude.{◌≡◌, [], ◌∷◌, ◌++◌, length, map, flat_map, nat_eq, if◌then◌else◌, All, OnOk, IfOk};
 ghost use Rattle.walter_report.specs.Reports.{reply_to, replies_to};
 ghost use Rattle.walter_report.specs.Answered.{HaveEach, AddEach};

@@ -1,3 +1,4 @@
+//! The lines of the sites.
 ghost use Rattle.std.specs.Prelude.{length};
 ghost use Rattle.walter_report.specs.Overviews.{Tells, TellEach};
 ghost use Rattle.walter_report.specs.Pages.{Puts};

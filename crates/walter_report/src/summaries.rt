@@ -1,3 +1,4 @@
+//! The summary of a load.
 ghost use Rattle.std.specs.Prelude.{◌≡◌, length, OnOk, IfErr};
 ghost use Rattle.walter_report.specs.Overviews.{Tells, TellEach};
 ghost use Rattle.walter_report.specs.Pages.{Puts};

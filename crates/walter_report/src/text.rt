@@ -1,3 +1,4 @@
+//! The report of a run.
 ghost use Rattle.std.specs.Prelude.{◌≡◌, ◌≤◌, true, length, flat_map, OnOk, IfErr};
 ghost use Rattle.walter_base.specs.Vectors.{most_sites};
 ghost use Rattle.walter_report.specs.Answered.{HaveEach};

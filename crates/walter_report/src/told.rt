@@ -1,3 +1,4 @@
+//! What the lines of all sites tell.
 ghost use Rattle.std.specs.Prelude.{IfOk};
 ghost use Rattle.walter_report.specs.Overviews.{TellEach};
 

@@ -1,3 +1,4 @@
+//! The trace: a line for each entry.
 ghost use Rattle.std.specs.Prelude.{◌≡◌, ◌++◌, ◌∷◌, [], flat_map, codes, All, IfSome};
 ghost use Rattle.walter_base.specs.Sizes.{CanBeRecorded};
 ghost use Rattle.walter_reply.specs.Replies.{FitsFrame};

@@ -1,3 +1,4 @@
+//! Reads requests, and takes exactly the spellings.
 ghost use Rattle.std.specs.Prelude.{◌≡◌, ◌≢◌, ◌≤◌, ◌<◌, [], length, OnOk, IfOk, IfErr};
 ghost use Rattle.walter_request.specs.Requests.{Spells, IsFaultOf};
 ghost use Rattle.walter_request.specs.Stops.{EndsWith, StopsBehind, StopsAt};

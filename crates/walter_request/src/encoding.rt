@@ -1,3 +1,4 @@
+//! Writes requests, and counts the bytes that this takes.
 ghost use Rattle.std.specs.Prelude.{◌≡◌, ◌+◌, ◌≤◌, ◌++◌, length, IfOk};
 ghost use Rattle.walter_request.specs.Requests.{request_spelled, FitsFrame};
 

@@ -1,3 +1,4 @@
+//! Why a body gives no request.
 ghost use Rattle.std.specs.Prelude.{◌≡◌};
 ghost use Rattle.walter_request.specs.declared.fault.Stop.TheVariants.{Cut};
 

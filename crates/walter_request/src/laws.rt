@@ -1,3 +1,4 @@
+//! Laws of the spellings of requests.
 ghost use Rattle.std.specs.Prelude.{◌≡◌, ℕ, List, length};
 ghost use Rattle.walter_base.specs.declared.message.Request.{Request};
 ghost use Rattle.walter_request.specs.Requests.{request_spelled, size_of, Spells, IsBadFrame};

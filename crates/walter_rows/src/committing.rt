@@ -1,3 +1,4 @@
+//! Counts the updates of a transaction that is committed.
 ghost use Rattle.std.specs.Prelude.{◌≡◌, ◌++◌, ◌∷◌, [], ℕ, List, true, false};
 ghost use Rattle.walter_cset.specs.Totals.{HavePlaces};
 ghost use Rattle.walter_rows.specs.Rows.{AreTotalsOf, SeesAlike};

@@ -1,6 +1,6 @@
 -- What the rules say of an input leaves a site up that is up, a fault brings it down, each stamp is later than the last,
--- all that is to be put out can be, a restart changes no debt, and each record raises the epoch by one at most.
-use Rattle.std.proofs.Common.{◌≡◌, ℕ, ◌+◌, ◌<◌, ◌≤◌, true, false, List, [], ◌∷◌, length, Option, Some, None, Result, refl, arith}
+-- all that is to be put out can be, and each record raises the epoch by one at most.
+use Rattle.std.proofs.Common.{◌≡◌, ℕ, ◌+◌, ◌<◌, ◌≤◌, true, false, List, [], ◌∷◌, length, Option, Some, Result, refl, arith}
 use Rattle.walter_base.specs.declared.catalog.Catalog.{Catalog}
 use Rattle.walter_base.specs.declared.format.Format.{Format}
 use Rattle.walter_base.specs.declared.message.BadFrame.{BadFrame}
@@ -22,7 +22,7 @@ use Rattle.walter_rules.specs.Learning.{recorded}
 use Rattle.walter_rules.specs.Records.{CanAllFollow, replayed}
 use Rattle.walter_rules.specs.Rule.{rule}
 use Rattle.walter_rules.specs.Sending.{Send}
-use Rattle.walter_rules.specs.Standing.{Standing, goes_down, settled}
+use Rattle.walter_rules.specs.Standing.{Standing, goes_down}
 use Rattle.walter_rules.specs.Trails.{IsPutOut, all_out, put_out, carried_one, failure, IsNextStamp}
 use Rattle.walter_rules.proofs.RulesAllowed.{rule_allowed}
 
@@ -119,12 +119,6 @@ later_next Restart last stamp is = omega (arith, is)
 pub put_all : (carried : SiteId → ℕ) (sends : List Send) → IsPutOut carried sends sends 0
 put_all carried [] = all_out carried
 put_all carried (send ∷ sends) = put_out carried send sends sends 0 (put_all (carried_one send.0 carried) sends)
-
--- a restart that finds the record in flight changes no debt
-pub settled_gone : (catalog : Catalog) (i : SiteId) (kept : Option Record) (S : Standing) (client : ℕ)
-    → (settled catalog i kept S).gone client ≡ S.gone client
-settled_gone catalog i None S client = refl
-settled_gone catalog i (Some rec) S client = refl
 
 -- each Boot raises the epoch by one
 pub epoch_few : (catalog : Catalog) (i : SiteId) (K : Knowledge) (records : List Record) → CanAllFollow catalog i K records

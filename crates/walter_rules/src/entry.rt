@@ -1,3 +1,4 @@
+//! The entries of a trail: what happened to a site, when, and what came of it.
 use crate::event::Event;
 use crate::outcome::Outcome;
 use std::alloc::Global;

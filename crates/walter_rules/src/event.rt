@@ -1,3 +1,4 @@
+//! What happens to a site: it is given something, stops or restarts.
 use walter_base::{Call, Packet, SiteId};
 
 /// What is given to a site that is up.

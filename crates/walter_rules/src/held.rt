@@ -1,3 +1,4 @@
+//! What a site holds of a commit, and how far ahead of a peer's acknowledgement its own are sent.
 use walter_base::Tx;
 
 /// How many own commits above what a peer has acknowledged are sent to it.

@@ -1,3 +1,4 @@
+//! Laws of the rules: all that they say of an event is allowed.
 ghost use Rattle.walter_base.specs.declared.catalog.Catalog.{Catalog};
 ghost use Rattle.walter_base.specs.declared.format.Format.{Format};
 ghost use Rattle.walter_base.specs.declared.names.SiteId.{SiteId};

@@ -1,3 +1,4 @@
+//! What an event comes to: an answer, a change, or why there is none.
 use walter_base::Reply;
 
 /// What an event came to.

@@ -1,5 +1,5 @@
 -- Right and linked trails, merged and taken newest first, are a run.
-use Rattle.std.proofs.Common.{◌≡◌, ℕ, zero, suc, ◌<◌, ◌≤◌, true, false, List, [], ◌∷◌, ◌++◌, length, reverse, take, refl, ap, sym, ◌∙◌, subst, arith, if◌then◌else◌, slice_get, Some, inl, inr}
+use Rattle.std.proofs.Common.{◌≡◌, ℕ, zero, suc, ◌<◌, ◌≤◌, true, false, List, [], ◌∷◌, ◌++◌, length, reverse, refl, ap, sym, ◌∙◌, subst, arith, if◌then◌else◌, slice_get, Some, inl, inr}
 use Rattle.std.specs.Prelude.{Contains, Option, None, filter_map, slice_index_or}
 use Rattle.std.specs.List.{cons_option}
 use Rattle.std.proofs.lemmas.Bool.Decides.{leb_tells}
@@ -72,10 +72,6 @@ one_of_trails (trail ∷ trails) (suc place) front rest e is = let l = one_of_tr
 at_middle : {X : Type 0} (front rest : List X) (x : X) → slice_get (front ++ x ∷ rest) (length front) ≡ Some x
 at_middle [] rest x = refl
 at_middle (f ∷ front) rest x = at_middle front rest x
-
-take_front : {X : Type 0} (front rest : List X) → take (length front) (front ++ rest) ≡ front
-take_front [] rest = refl
-take_front (f ∷ front) rest = ap (λ xs. f ∷ xs) (take_front front rest)
 
 -- an entry of a site stands in the list with its site
 named_entry : (j : SiteId) (ns : List Named) (e : Entry) → Contains (entries_of j ns) e → Contains ns (j, e)

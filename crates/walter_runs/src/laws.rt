@@ -1,3 +1,4 @@
+//! Right and linked trails, merged by their stamps, are a run.
 ghost use Rattle.std.specs.Prelude.{List, reverse};
 ghost use Rattle.walter_base.specs.declared.catalog.Catalog.{Catalog};
 ghost use Rattle.walter_base.specs.declared.names.SiteId.{SiteId};

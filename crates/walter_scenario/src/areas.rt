@@ -1,3 +1,4 @@
+//! How many areas each journal has, by the value of its key.
 ghost use Rattle.std.specs.Prelude.{ℕ, IfSome, IfNone};
 ghost use Rattle.walter_scenario.specs.Members.{data_in};
 ghost use Rattle.walter_scenario.specs.Scenarios.{GivesAreas};

@@ -1,3 +1,4 @@
+//! The arms that values spell.
 ghost use Rattle.std.specs.Prelude.{◌≡◌, ◌≢◌, ◌∷◌, [], IfSome, IfNone, IfOk, IfErr};
 ghost use Rattle.serde_json.specs.View.{view};
 ghost use Rattle.walter_scenario.specs.declared.scenario.Arm.{Arm};

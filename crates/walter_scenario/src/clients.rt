@@ -1,3 +1,4 @@
+//! The clients that values spell.
 ghost use Rattle.std.specs.Prelude.{◌≡◌, ◌≢◌, ◌<◌, ◌↔◌, ◌∷◌, [], ℕ, List, count_by, nat_eq, IsTrue, MatchOption, IfSome, IfNone, IfOk, IfErr};
 ghost use Rattle.hex.specs.Hex.{decode_of};
 ghost use Rattle.serde_json.specs.Data.{string};

@@ -1,3 +1,4 @@
+//! The containers that values spell, as a catalog.
 ghost use Rattle.std.specs.Prelude.{◌≡◌, ◌≢◌, ◌<◌, ◌≤◌, map, IfSome, IfNone, IfOk, IfErr};
 ghost use Rattle.serde_json.specs.Data.{string};
 ghost use Rattle.serde_json.specs.View.{view};

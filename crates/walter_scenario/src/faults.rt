@@ -1,3 +1,4 @@
+//! What errors come to while a scenario is read.
 ghost use Rattle.std.specs.Prelude.{◌≡◌};
 ghost use Rattle.walter_scenario.specs.declared.place.Detail.TheVariants.{None as no_detail};
 ghost use Rattle.walter_scenario.specs.declared.place.ReadFault.TheVariants.{Refused, NoMemory as no_memory};

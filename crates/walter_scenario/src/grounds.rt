@@ -1,3 +1,4 @@
+//! What is played on, read from its parts.
 ghost use Rattle.std.specs.Prelude.{◌≤◌, ◌*◌, length, IfOk, IfErr};
 ghost use Rattle.walter_scenario.specs.Members.{AreGroundsOf, IsFaultOf};
 

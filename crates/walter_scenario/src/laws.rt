@@ -1,3 +1,4 @@
+//! The law that bytes spell one scenario or are refused at one place.
 ghost use Rattle.std.specs.Prelude.{◌≡◌, ℕ, List};
 ghost use Rattle.walter_scenario.specs.declared.place.Place.{Place};
 ghost use Rattle.walter_scenario.specs.declared.scenario.Scenario.{Scenario};

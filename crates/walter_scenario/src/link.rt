@@ -1,3 +1,4 @@
+//! The link, by the value of its key.
 ghost use Rattle.std.specs.Prelude.{◌↔◌, ◌≤◌, ℕ, IsTrue, IfSome, IfNone};
 ghost use Rattle.serde_json.specs.View.{members_view};
 ghost use Rattle.walter_link.specs.declared.chooser.Link.{Link};

@@ -1,3 +1,4 @@
+//! The clients, arms and steps of a scenario, in order.
 ghost use Rattle.std.specs.Prelude.{◌≡◌};
 
 use crate::scenario::{Arm, Client, Step};

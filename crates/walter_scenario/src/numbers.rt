@@ -1,3 +1,4 @@
+//! How many sites there are, and how many of them may be lost.
 ghost use Rattle.std.specs.Prelude.{◌≡◌, ◌≢◌, ◌<◌, ◌≤◌, ℕ, IfSome, IfNone};
 ghost use Rattle.serde_json.specs.View.{view};
 ghost use Rattle.walter_base.specs.Vectors.{most_sites};

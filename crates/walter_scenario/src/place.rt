@@ -1,3 +1,4 @@
+//! Where a scenario is wrong, and the words that say so.
 use crate::step_fault::StepFault;
 use std::fmt::{self, Display, Formatter, Write};
 use thiserror::Error;

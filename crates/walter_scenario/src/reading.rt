@@ -1,3 +1,4 @@
+//! Reads a scenario from its bytes.
 ghost use Rattle.std.specs.Prelude.{◌≤◌, ◌^◌, length, IfOk, IfErr};
 ghost use Rattle.walter_scenario.specs.Members.{IsReadingOf, IsFaultOf, IsReadingOn, IsFaultOn};
 ghost use Rattle.walter_scenario.specs.Scenarios.{IsReading, IsReadFault};

@@ -1,3 +1,4 @@
+//! A scenario, and the limits of what it may name.
 use crate::lists::{Arms, Clients, Steps};
 use walter_base::{Catalog, SharedBytes, SiteId};
 use walter_link::Link;

@@ -1,3 +1,4 @@
+//! How a scenario is played, read from its parts.
 ghost use Rattle.std.specs.Prelude.{IfOk, IfErr};
 ghost use Rattle.walter_scenario.specs.declared.grounds.Grounds.{Grounds};
 ghost use Rattle.walter_scenario.specs.Members.{AreSettingsOf, IsFaultOn};

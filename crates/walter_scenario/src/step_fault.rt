@@ -1,3 +1,4 @@
+//! What is wrong with a step, and the words that say so.
 use thiserror::Error;
 
 /// The form of a step: its text shows which values such a step has, and in which order.

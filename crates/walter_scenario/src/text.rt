@@ -1,3 +1,4 @@
+//! JSON, read from bytes.
 ghost use Rattle.std.specs.Prelude.{◌≡◌, ◌≢◌, IsUtf8, IfOk, IfErr, IfSome, IfNone};
 ghost use Rattle.serde_json.specs.Data.{Data, Members, object};
 ghost use Rattle.serde_json.specs.Read.{read as reading};

@@ -1,3 +1,4 @@
+//! How many ticks a pumped site may make, by the value of its key.
 ghost use Rattle.std.specs.Prelude.{ℕ, IfSome, IfNone};
 ghost use Rattle.walter_scenario.specs.Members.{data_in};
 ghost use Rattle.walter_scenario.specs.Scenarios.{GivesTicks};

@@ -230,12 +230,6 @@ slot_here slots keys place e each at none =
 pub end_nothing : (slots : Slab Slot) (keys : List (ℕ × ℕ)) (client : ℕ) → AreLinked keys slots → lookup (nat_eq client) keys ≡ None → without client (clients_in slots keys) ≡ clients_in slots keys
 end_nothing slots keys client linked none = without-absent client (clients_in slots keys) (kept_found slots keys client linked.each ∙ ap (kept_at slots) none)
 
--- slots with the same values keep the same
-pub same_clients : (slots other : Slab Slot) (keys : List (ℕ × ℕ)) → other.slots ≡ slots.slots → clients_in other keys ≡ clients_in slots keys
-same_clients slots other [] values = refl
-same_clients slots other (e ∷ keys) values =
-    ap (λ vs. with_slot e.0 (slice_index_or vs e.1 None) (clients_in other keys)) values ∙ ap (λ rest. with_slot e.0 (get slots e.1) rest) (same_clients slots other keys values)
-
 pub same_linked : (slots other : Slab Slot) (keys also : List (ℕ × ℕ)) → also ≡ keys → other.slots ≡ slots.slots → AreLinked keys slots → AreLinked also other
 same_linked slots other keys also same values linked = record {
   each = subst (All (IsKeyOf other)) (sym same) (λ k d lt. let own = linked.each k d lt in (own.0, ap (λ vs. slice_index_or vs (let e : ℕ × ℕ = slice_index_or keys k d in e.1) None) values ∙ own.1, own.2));

@@ -1,3 +1,4 @@
+//! The transaction of a client, and why none is started.
 use thiserror::Error;
 use walter_base::{Tid, Update, Vts};
 

@@ -1,3 +1,4 @@
+//! The sessions of all clients, by client and by the order of their starts.
 ghost use Rattle.std.specs.Prelude.{◌≡◌, ◌<◌, ◌≤◌, ◌+◌, ◌++◌, ◌∷◌, ◌↔◌, ◌&&◌, [], ℕ, nat_eq, length, slice_get, false, None, IsSome, is_some, IsOk, IsTrue, OnOk, OnErr, IfErr, option_map, if◌then◌else◌};
 ghost use Rattle.std.specs.List.{list_any};
 ghost use Rattle.std.specs.Option.{option_copied, option_map_or};

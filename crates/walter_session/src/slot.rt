@@ -1,3 +1,4 @@
+//! A session with its client, and room for the updates to come.
 ghost use Rattle.std.specs.Prelude.{◌≡◌, ◌<◌, ◌≤◌, ◌+◌, OnOk, OnErr, IsOk};
 ghost use Rattle.walter_rules.specs.Sessions.{with_update, with_slow};
 ghost use Rattle.walter_session.specs.Sessions.{kept_in};

@@ -6,7 +6,7 @@ use Rattle.walter_base.specs.declared.names.SiteId.{SiteId}
 use Rattle.walter_base.specs.declared.transaction.Conflict.{Conflict}
 use Rattle.walter_base.specs.declared.transaction.Tx.{Tx}
 use Rattle.walter_base.specs.Vectors.{most_sites}
-use Rattle.walter_site.specs.Members.{IsStarted, Knows, IsStanding}
+use Rattle.walter_site.specs.Members.{Knows}
 use Rattle.walter_rules.specs.Knowledge.{Knowledge}
 use Rattle.walter_rules.specs.Learning.{recorded}
 use Rattle.walter_rules.specs.Slow.{Slow, Unused, Undecided, Dropped, Decided}
@@ -54,18 +54,6 @@ open_at t K S = subst (AreOpenAt t.catalog t.site) S.sessions t.open
 pub most_at : (t : Tables) → (catalog_of t).sites ≤ most_sites
 unfolding catalog_of
 most_at t = t.most
-
--- tables that stand for as much are of a site that is up, too
-pub knows_kept : (old new : Tables) → site_of new ≡ site_of old → ((K : Knowledge) → Stands old K → Stands new K)
-    → (K : Knowledge) → Knows old K → Knows new K
-knows_kept old new site stands K S = record {
-  stands = stands K S.stands;
-  started = subst (λ (i : SiteId). IsStarted i K) (sym site) S.started;
-}
-
-pub standing_kept : (old new : Tables) → site_of new ≡ site_of old → ((K : Knowledge) → Stands old K → Stands new K)
-    → IsStanding old → IsStanding new
-standing_kept old new site stands is = (is.0, knows_kept old new site stands is.0 is.1)
 
 -- no record changes how many transactions were started
 pub starts_kept : (old new : Tables) (K : Knowledge) (rec : Option Record) → Stands old K

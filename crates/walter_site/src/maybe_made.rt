@@ -1,3 +1,4 @@
+//! What goes with the record of a plan, or nothing, on the heap.
 ghost use Rattle.std.specs.Prelude.{◌≡◌, Some, None, IfOk};
 
 use std::marker::Model;

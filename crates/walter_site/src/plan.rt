@@ -1,3 +1,4 @@
+//! What is to come of an input, with all that applying it takes.
 ghost use Rattle.std.specs.Prelude.{◌≡◌, None};
 
 use crate::maybe_made::MaybeMade;

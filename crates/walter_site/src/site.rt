@@ -1,3 +1,4 @@
+//! A site that is up: it plans what comes of an input, and then applies the plan.
 ghost use Rattle.std.specs.Prelude.{◌≡◌, All, IfSome, OnErr, OnOk, true};
 ghost use Rattle.walter_site.specs.Members.{IsStanding};
 

@@ -2,7 +2,7 @@
 use Rattle.std.proofs.Common.{◌≡◌, ◌≤◌, ◌+◌, ℕ, Bool, true, false, not, ◌||◌, List, [], ◌∷◌, ◌++◌, cond, sym, subst, arith, length, refl}
 use Rattle.std.proofs.lemmas.List.{length_push}
 use Rattle.std.proofs.lemmas.List.Folds.{list_any-append}
-use Rattle.std.proofs.lemmas.List.Sums.{count_by-le-length, sum_by-cons}
+use Rattle.std.proofs.lemmas.List.Sums.{sum_by-cons}
 use Rattle.walter_base.specs.declared.names.SiteId.{SiteId}
 use Rattle.walter_base.specs.Names.{same_site}
 use Rattle.walter_base.proofs.NameTests.{both, same_site-true, same_site_refl}
@@ -64,11 +64,4 @@ pub room_heard : (site : SiteId) (asked heard : List SiteId) (capacity : ℕ) �
 room_heard site asked heard capacity room is = record {
   missing = omega (arith, less_by_missing site asked heard is, room.missing, length_push heard site);
   all = room.all;
-}
-
--- and for all, where none is heard
-pub room_anew : (asked : List SiteId) (capacity : ℕ) → length asked ≤ capacity → HasRoom asked [] capacity
-room_anew asked capacity fits = record {
-  missing = omega (arith, count_by-le-length (λ site. not (has_site site [])) asked, fits);
-  all = fits;
 }

@@ -1,3 +1,4 @@
+//! The numbers of the slow commits that are being decided, or owe a RELEASE.
 ghost use Rattle.std.specs.Prelude.{◌≡◌, ◌≤◌, ◌-◌, ◌&&◌, ◌||◌, not, ℕ, nat_eq, vec_len, vec_capacity};
 ghost use Rattle.std.specs.List.{list_any};
 ghost use Rattle.walter_slow.specs.Tables.{RiseBetween};

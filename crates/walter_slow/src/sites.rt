@@ -1,9 +1,11 @@
+//! Whether the sites that a slow commit asks are heard.
 ghost use Rattle.std.specs.Prelude.{◌≡◌, ◌∷◌};
 ghost use Rattle.std.specs.List.{list_all};
 ghost use Rattle.walter_rules.specs.Slow.{has_site};
 
 use walter_base::SiteId;
 
+/// Whether the site is one of these.
 pub fn is_among(site: SiteId, sites: &[SiteId]) -> bool
     ensures { result ≡ has_site site sites.now }
 {

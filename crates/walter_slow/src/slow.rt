@@ -1,3 +1,4 @@
+//! All slow commits of a site.
 ghost use Rattle.std.specs.Prelude.{◌≡◌, ◌<◌, ◌≤◌, ◌+◌, ◌↔◌, [], ℕ, nat_eq, true, false, length, slice_get, Some, None, is_some, IsTrue, IsOk, OnOk, option_map, option_and_then, if◌then◌else◌};
 ghost use Rattle.std.specs.Option.{option_copied, option_map_or};
 ghost use Rattle.walter_base.specs.declared.transaction.Tx.{Tx as Transaction};
@@ -146,12 +147,14 @@ impl SlowCommits {
         self.commits.get(&slow)?.refusal()
     }
 
+    /// Whether it is being decided, or ended without a commit.
     pub fn is_kept(&self, slow: u64) -> bool
         ensures { result ≡ is_some (commit_of self.now slow) }
     {
         self.commits.contains_key(&slow)
     }
 
+    /// Whether it is being decided. A number that no slow commit has is not.
     pub fn is_undecided(&self, slow: u64) -> bool
         ensures { result ≡ is_being_decided (commit_of self.now slow) }
     {

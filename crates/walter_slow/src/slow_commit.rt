@@ -1,3 +1,4 @@
+//! One slow commit: whom it asks, who was heard, and how it ended.
 ghost use Rattle.std.specs.Prelude.{◌≡◌, ◌≤◌, ◌∷◌, [], Some, None, length, is_some, vec_capacity};
 ghost use Rattle.std.specs.Option.{option_copied};
 ghost use Rattle.walter_slow.specs.Kept.{is_busy, does_decide, verdict_of, heard_yes, heard_released, heard_no, ended_by, booted};
@@ -44,6 +45,7 @@ impl SlowCommit {
         }
     }
 
+    /// Whether it is being decided: as long as it is, it has a transaction.
     pub fn is_undecided(&self) -> bool
         ensures { result ≡ is_some self.now.tx }
     {
@@ -57,6 +59,7 @@ impl SlowCommit {
         self.is_undecided() || !are_heard(self.asked.as_slice(), &self.heard)
     }
 
+    /// Its transaction, while it is being decided.
     pub fn transaction(&self) -> Option<&Tx>
         ensures { option_copied result ≡ self.entry.now.tx }
     {
@@ -69,6 +72,7 @@ impl SlowCommit {
         &self.asked
     }
 
+    /// The NO that ended it. There is none where a boot ended it.
     pub fn refusal(&self) -> Option<Conflict>
         ensures { result ≡ self.now.no }
     {
@@ -92,6 +96,7 @@ impl SlowCommit {
         is_among(site, self.asked.as_slice()) && !is_among(site, &self.heard)
     }
 
+    /// What a vote comes to. A LATER, or a NO that says that the slow commit is over, leaves it undecided.
     pub fn verdict(&self, from: SiteId, answer: &Answer) -> Verdict
         ensures { result ≡ verdict_of (Some self.now) from answer.now }
     {

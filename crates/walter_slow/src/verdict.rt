@@ -1,3 +1,4 @@
+//! What a vote comes to.
 use walter_base::Conflict;
 
 /// What a vote comes to.

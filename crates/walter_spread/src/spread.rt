@@ -1,3 +1,4 @@
+//! How far a site has come with the commits of each site, and which it takes, commits or sends next.
 ghost use Rattle.std.specs.Prelude.{◌≡◌, ◌≢◌, ◌+◌, ◌^◌, ◌<◌, ◌≤◌, ◌↔◌, length, IsTrue};
 ghost use Rattle.walter_base.specs.Vectors.{most_sites, entry_at};
 ghost use Rattle.walter_spread.specs.Propagation.{unbegun, own, IsPossible, IsAccepted, IsEnabled, IsWithin, in_window, into_window, with_received, with_committed, with_own, with_durable};

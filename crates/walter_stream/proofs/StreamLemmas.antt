@@ -4,11 +4,6 @@ use Rattle.std.proofs.Math.Seq.{take-add}
 use Rattle.std.proofs.lemmas.List.{take-append-drop, drop-drop, take_rest}
 use Rattle.walter_stream.specs.Streams.{TakesFront, Appends}
 
--- nothing was taken yet
-pub TakesFront-nil : (a : Option (List ℕ)) → TakesFront a a []
-TakesFront-nil None = refl
-TakesFront-nil (Some xs) = refl
-
 -- what is taken by one call after another is taken by both
 pub TakesFront-trans : (a b c : Option (List ℕ)) (xs ys : List ℕ) → TakesFront a b xs → TakesFront b c ys → TakesFront a c (xs ++ ys)
 TakesFront-trans a b None xs ys p q = rw (p, q) refl

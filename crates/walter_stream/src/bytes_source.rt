@@ -1,3 +1,4 @@
+//! A source over bytes in memory, which never fails.
 ghost use Rattle.std.specs.Arc.{arc_slice_items};
 ghost use Rattle.std.specs.Prelude.{◌≡◌, ◌<◌, ◌≤◌, length, take, min, Some, Ok, IfOk, OnOk, OnErr};
 ghost use Rattle.walter_stream.specs.Streams.{AtEnd, TakesFront};

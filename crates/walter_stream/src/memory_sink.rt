@@ -1,3 +1,4 @@
+//! A sink in memory, of limited room, which fails where it is told to.
 ghost use Rattle.std.specs.Prelude.{◌≡◌, ◌↔◌, ◌-◌, ◌<◌, ◌≤◌, [], length, take, min, Some, IsErr, IfOk, OnOk, OnErr};
 ghost use Rattle.walter_faults.specs.Schedules.{planned, AddsCall};
 ghost use Rattle.walter_stream.specs.Memory.{NextWriteFails};

@@ -1,3 +1,4 @@
+//! A source over bytes in memory, which fails where it is told to.
 ghost use Rattle.std.specs.Arc.{arc_slice_items};
 ghost use Rattle.std.specs.Prelude.{◌≡◌, ◌↔◌, ◌+◌, ◌<◌, ◌≤◌, length, take, min, Some, IsErr, IfOk, OnOk, OnErr};
 ghost use Rattle.walter_faults.specs.Schedules.{planned, NextFails, AddsCall};

@@ -1,3 +1,4 @@
+//! A sink that keeps nothing.
 ghost use Rattle.std.specs.Prelude.{◌≡◌, ◌<◌, ◌≤◌, length, take, None, IfOk, OnOk, OnErr};
 ghost use Rattle.walter_stream.specs.Streams.{Appends};
 

@@ -1,3 +1,4 @@
+//! Reads a source to its end.
 ghost use Rattle.std.specs.Prelude.{◌≡◌, ◌≤◌, vec_len, IfOk, OnOk, OnErr, IsErrOf};
 ghost use Rattle.walter_stream.specs.ReadError.{CountsFaults};
 ghost use Rattle.walter_stream.specs.Streams.{AtEnd, TakesFront, TakesSome, TakesMoreThan};

@@ -1,3 +1,4 @@
+//! Where bytes go: a trait.
 ghost use Rattle.std.specs.Prelude.{◌≡◌, ◌<◌, ◌≤◌, ℕ, List, length, take, Option, IfOk, OnOk, OnErr};
 ghost use Rattle.walter_stream.specs.Streams.{Appends};
 

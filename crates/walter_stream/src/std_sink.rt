@@ -1,3 +1,4 @@
+//! A sink over a writer of std.
 ghost use Rattle.std.specs.Prelude.{◌≡◌, ◌<◌, ◌≤◌, ◌+◌, length, take, None, IfOk, OnOk, OnErr};
 ghost use Rattle.std.specs.Io.KnownBytes.{WriteAppends};
 ghost use Rattle.walter_stream.specs.StdSink.{writer_of, faults_of};

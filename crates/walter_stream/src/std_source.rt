@@ -1,3 +1,4 @@
+//! A source over a reader of std.
 ghost use Rattle.std.specs.Prelude.{◌≡◌, ◌<◌, ◌≤◌, length, take, None, IfOk, OnOk, OnErr};
 ghost use Rattle.std.specs.Io.KnownBytes.{ReadConsumes};
 ghost use Rattle.walter_stream.specs.StdSource.{reader_of, faults_of};

@@ -1,3 +1,4 @@
+//! Writes bytes to a sink, all of them.
 ghost use Rattle.std.specs.Prelude.{◌≡◌, ◌<◌, OnOk, OnErr};
 ghost use Rattle.walter_stream.specs.Streams.{Appends, AppendsFront};
 

@@ -1,5 +1,5 @@
 -- What a start, a change and an end leave of the sessions.
-use Rattle.std.proofs.Common.{◌≡◌, ℕ, zero, suc, not, nat_eq, List, [], ◌∷◌, ◌++◌, Option, Some, None, IfSome, length, refl, arith}
+use Rattle.std.proofs.Common.{◌≡◌, ℕ, not, nat_eq, List, [], ◌∷◌, ◌++◌, Option, Some, None, IfSome, length, refl, arith}
 use Rattle.std.proofs.lemmas.List.Elements.{All-nil, All-push, All-filter}
 use Rattle.walter_base.specs.declared.catalog.Catalog.{Catalog}
 use Rattle.walter_base.specs.declared.names.SiteId.{SiteId}
@@ -7,7 +7,6 @@ use Rattle.walter_base.specs.declared.names.Tid.{Tid}
 use Rattle.walter_base.specs.Sizes.{HasShortValue}
 use Rattle.walter_base.specs.ByClient.{changed, without}
 use Rattle.walter_base.proofs.ByClient.{all_changed, all_of_client, apart_behind, apart_changed, apart_without}
-use Rattle.walter_rules.specs.Calls.{if_open, open_in}
 use Rattle.walter_rules.specs.Sessions.{Session, Sessions, session_in}
 use Rattle.walter_session.specs.Sessions.{started}
 use Rattle.walter_tables.specs.Answering.{deciding_any}
@@ -42,19 +41,6 @@ open_more catalog i client new ss opens none one = record {
 pub session_is : (catalog : Catalog) (i : SiteId) (client : ℕ) (ss : Sessions) → AreOpenAt catalog i ss
     → IfSome (session_in client ss) (IsOpenAt catalog i)
 session_is catalog i client ss opens = all_of_client (IsOpenAt catalog i) client ss opens.each
-
--- and so it may where it is open
-pub open_is : (catalog : Catalog) (i : SiteId) (client : ℕ) (ss : Sessions) → AreOpenAt catalog i ss
-    → IfSome (open_in (session_in client ss)) (IsOpenAt catalog i)
-open_is catalog i client ss opens = by (session_in client ss) (session_is catalog i client ss opens)
-  where
-    by_slow : (n : ℕ) (s : Session) → IsOpenAt catalog i s → IfSome (if_open n s) (IsOpenAt catalog i)
-    by_slow zero s is = is
-    by_slow (suc n) s is = tt
-
-    by : (o : Option Session) → IfSome o (IsOpenAt catalog i) → IfSome (open_in o) (IsOpenAt catalog i)
-    by None is = tt
-    by (Some s) is = by_slow s.slow s is
 
 -- a session that starts may be open
 pub open_started : (catalog : Catalog) (i : SiteId) (tid : Tid) (snapshot : List ℕ) → tid.site ≡ i

@@ -1,10 +1,9 @@
 -- What is put out by the tables is what the rules put out.
-use Rattle.std.proofs.Common.{◌≡◌, ◌≢◌, ◌+◌, ◌-◌, ◌≤◌, ◌<◌, ℕ, zero, suc, nat_eq, nat_le, Bool, true, false, cond, not, ◌&&◌, ◌||◌, ◌⊎◌, Option, Some, None, List, [], ◌∷◌, ◌++◌, map, take, get_or, append_assoc, refl, ap, sym, ◌∙◌, subst, inl, inr, arith, if◌then◌else◌}
+use Rattle.std.proofs.Common.{◌≡◌, ◌≢◌, ◌+◌, ◌-◌, ◌≤◌, ◌<◌, ℕ, zero, suc, nat_eq, Bool, true, false, cond, not, ◌&&◌, ◌||◌, ◌⊎◌, Option, Some, None, List, [], ◌∷◌, ◌++◌, map, take, get_or, append_assoc, refl, ap, sym, ◌∙◌, subst, inl, inr, arith, if◌then◌else◌}
 use Rattle.std.specs.Prelude.{Contains, filter, flat_map, length, option_and_then, is_some}
 use Rattle.std.specs.List.{list_any, list_all, range_with_len}
 use Rattle.std.specs.Option.{option_map_or}
-use Rattle.std.proofs.lemmas.Bool.{cases_Bool, cases_eq, eqb-true, eq-eqb, leb-true, leb-false}
-use Rattle.std.proofs.lemmas.Option.{same_Some}
+use Rattle.std.proofs.lemmas.Bool.{cases_Bool, cases_eq, eqb-true, eq-eqb}
 use Rattle.std.proofs.lemmas.List.{map-append, append-nil, take_more}
 use Rattle.std.proofs.lemmas.List.Elements.{filter_map-append}
 use Rattle.std.proofs.lemmas.List.FromFn.{filter_of_map_range_with_len_more}
@@ -23,7 +22,6 @@ use Rattle.walter_slow.specs.Tables.{Table as SlowCommits, commit_of, AreBusy, R
 use Rattle.walter_rules.specs.Knowledge.{fresh, site_at, from_to}
 use Rattle.walter_rules.specs.Slow.{has_site}
 use Rattle.walter_rules.specs.Sending.{Send, to_each, prepare_of}
-use Rattle.walter_spread.specs.Propagation.{span}
 use Rattle.walter_tables.specs.Packets.{to_one, commits_of, prepare_kept, release_kept}
 use Rattle.walter_tables.specs.Standing.{Values}
 
@@ -54,30 +52,6 @@ pub commits_more : (V : Values) (first before : ℕ) → first ≤ before + 1
 commits_more V first before le =
     ap (commits_of V) (from_to_more first before le)
     ∙ filter_map-append _ (from_to first before) ((before + 1) ∷ [])
-
--- a first and a last number, where there are any
-pub span_first : (first last : ℕ) (numbers : ℕ × ℕ) → Some numbers ≡ span first last
-    → (first ≤ last) × (numbers.0 ≡ first) × (numbers.1 ≡ last)
-span_first first last numbers is =
-    elim (nat_le first last) as (λ b. nat_le first last ≡ b → Some numbers ≡ (if b then Some (first, last) else None)
-    → (first ≤ last) × (numbers.0 ≡ first) × (numbers.1 ≡ last)) [
-      | true ↦ λ le same.
-          let one : numbers ≡ (first, last) = same_Some numbers (first, last) same in
-          (leb-true first last le, ap (λ (p : ℕ × ℕ). p.0) one, ap (λ (p : ℕ × ℕ). p.1) one)
-      | false ↦ λ gt same. absurd cc
-    ] refl is
-
-pub span_none : (first last : ℕ) → None ≡ span first last → from_to first last ≡ []
-span_none first last is =
-    let numbers : ℕ × ℕ = (first, last) in
-    let nothing : Option (ℕ × ℕ) = None in
-    elim (nat_le first last) as (λ b. nat_le first last ≡ b → nothing ≡ (if b then Some numbers else nothing)
-    → from_to first last ≡ []) [
-      | true ↦ λ le same. absurd cc
-      | false ↦ λ gt same.
-          let none : last + 1 - first ≡ 0 = omega (arith, leb-false first last gt) in
-          ap (range_with_len first) none
-    ] refl is
 
 -- what is made of the numbers up to a place, and of the one there
 pub one_more_number : (f : ℕ → List Packet) (numbers : List ℕ) (place d : ℕ) → place < length numbers

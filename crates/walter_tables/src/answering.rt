@@ -1,3 +1,4 @@
+//! What the answer to a call leaves in the tables.
 ghost use Rattle.std.specs.Prelude.{◌≡◌, ◌≢◌, Option, OnOk, OnErr};
 ghost use Rattle.walter_base.specs.declared.message.Record.{Record as Written};
 ghost use Rattle.walter_base.specs.declared.message.Reply.{Reply as Answered};

@@ -1,3 +1,4 @@
+//! What a client is answered to all but a Commit.
 ghost use Rattle.std.specs.Prelude.{◌≡◌, ℕ, Ok, IfOk, OnErr};
 ghost use Rattle.walter_base.specs.declared.message.Request.{Request as Asked};
 ghost use Rattle.walter_base.specs.Sizes.{IsShortReply};

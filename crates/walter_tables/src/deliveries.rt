@@ -80,6 +80,7 @@ impl Tables {
         }
     }
 
+    /// What comes of a DSMARK: a number above the last is taken. It brings no record.
     pub fn plan_dsmark(&self, from: SiteId, durable: u64) -> Planned
         ensures rule { (K : Knowledge) → Stands self.now K
             → expected_of result ≡ packet_rule (catalog_of self.now) (site_of self.now) K from (Said.Dsmark durable) }
@@ -88,6 +89,7 @@ impl Tables {
         self.if_greater(self.spread.durable().get(from) < durable)
     }
 
+    /// What comes of a RELEASED: it is taken where the site is owed the RELEASE. It brings no record.
     pub fn plan_released(&self, from: SiteId, slow: u64) -> Planned
         ensures rule { (K : Knowledge) → Stands self.now K
             → expected_of result ≡ packet_rule (catalog_of self.now) (site_of self.now) K from (Said.Released slow) }
@@ -96,6 +98,8 @@ impl Tables {
         self.if_greater(self.slow.owes(slow, from))
     }
 
+    /// What comes of a RELEASE: the slow commit is over here. A RELEASED goes back, also where it was over
+    /// before.
     pub fn plan_release(&self, from: SiteId, slow: u64) -> Mem<Planned>
         requires peer { IsTrue (is_peer (catalog_of self.now) (site_of self.now) from) }
         ensures rule { IfOk result (λ p. (K : Knowledge) → Stands self.now K
@@ -110,6 +114,8 @@ impl Tables {
         Ok(takes(rec, sends))
     }
 
+    /// What comes of a commit that a peer sends: it is received where it is the next and what it has seen is
+    /// here. An ACK of the last that is received goes back, but for a commit that can't be received yet.
     pub fn plan_propagate(&self, from: SiteId, seq: u64, tx: &Tx) -> Mem<Planned>
         requires peer { IsTrue (is_peer (catalog_of self.now) (site_of self.now) from) }
         ensures rule { IfOk result (λ p. (K : Knowledge) → Stands self.now K
@@ -242,6 +248,8 @@ impl Tables {
         Ok(takes(rec, sends))
     }
 
+    /// What comes of a PREPARE. Where one of its objects can't be locked here, nothing does; a slow commit
+    /// that is over is told NO, and one that has its lock YES once more.
     pub fn plan_prepare(
         &self,
         from: SiteId,

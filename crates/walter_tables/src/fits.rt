@@ -1,3 +1,4 @@
+//! Whether a record can follow those that made the tables.
 ghost use Rattle.std.specs.Prelude.{◌≡◌, ◌↔◌, ◌+◌, ◌<◌, ◌≤◌, ◌&&◌, nat_eq, nat_lt, Some, is_some, length, IsTrue};
 ghost use Rattle.walter_base.specs.declared.message.Record.{Record as Written};
 ghost use Rattle.walter_base.specs.declared.names.Tid.{Tid as Name};

@@ -1,3 +1,4 @@
+//! What the tables take in of what a peer said.
 ghost use Rattle.std.specs.Prelude.{◌≡◌, ◌<◌, ℕ};
 ghost use Rattle.walter_base.specs.declared.packet.Packet.{Packet as Said};
 ghost use Rattle.walter_rules.specs.declared.event.Event.TheVariants.{Given};

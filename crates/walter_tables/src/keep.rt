@@ -1,3 +1,4 @@
+//! What a record makes of the tables.
 ghost use Rattle.std.specs.Prelude.{◌≡◌};
 ghost use Rattle.walter_base.specs.declared.message.Record.{Record as Written};
 ghost use Rattle.walter_rules.specs.Learning.{slow_number};

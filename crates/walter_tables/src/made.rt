@@ -1,3 +1,4 @@
+//! What goes with a record.
 use walter_base::{Objects, Row, Sites};
 use walter_durable::PreferredSites;
 

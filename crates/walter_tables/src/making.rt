@@ -1,3 +1,4 @@
+//! All that keeping a record takes, made before it is kept.
 ghost use Rattle.std.specs.Prelude.{◌≡◌, ◌<◌, ◌≤◌, IfOk, OnOk, length};
 ghost use Rattle.walter_cset.specs.Totals.{HavePlaces};
 ghost use Rattle.walter_base.specs.declared.message.Record.{Record as Written};

@@ -1,3 +1,4 @@
+//! How many own commits are durable or visible, and how many would be.
 ghost use Rattle.std.specs.Prelude.{◌≡◌, ◌+◌, ◌<◌, ◌≤◌, ℕ, Some, true};
 ghost use Rattle.walter_base.specs.declared.message.Record.{Record as Written};
 ghost use Rattle.walter_base.specs.declared.transaction.Tx.{Tx};

@@ -1,3 +1,4 @@
+//! How a slow commit is over: committed, ended without a commit, or released.
 ghost use Rattle.std.specs.Prelude.{◌≡◌, ℕ, length, nat_eq, option_map, if◌then◌else◌};
 ghost use Rattle.walter_base.specs.declared.names.ObjId.{ObjId as Object};
 ghost use Rattle.walter_base.specs.declared.names.SiteId.{SiteId as Site};

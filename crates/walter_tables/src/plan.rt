@@ -1,3 +1,4 @@
+//! What is to come of an input.
 use walter_base::{MaybeRecord, Sends};
 use walter_rules::Outcome;
 

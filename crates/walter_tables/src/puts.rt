@@ -1,3 +1,4 @@
+//! Puts the packets for one site behind those that go out.
 ghost use Rattle.std.specs.Prelude.{◌≡◌, ◌<◌, ◌≤◌, ◌++◌, ◌∷◌, [], OnOk};
 ghost use Rattle.walter_rules.specs.Deliveries.{releases_to};
 ghost use Rattle.walter_rules.specs.Knowledge.{fresh, from_to};

@@ -1,3 +1,4 @@
+//! The records of a journal, taken in one after another.
 ghost use Rattle.std.specs.Prelude.{OnOk, OnErr, IfErr, ◌≡◌};
 ghost use Rattle.walter_rules.specs.Knowledge.{Knowledge};
 ghost use Rattle.walter_rules.specs.Records.{CanFollow, IsRecordAmong};

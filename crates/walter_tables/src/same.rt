@@ -1,3 +1,4 @@
+//! Whether two transactions are the same.
 ghost use Rattle.std.specs.Prelude.{◌≡◌, ◌↔◌, IsTrue};
 ghost use Rattle.walter_tables.specs.Same.{IsSame};
 

@@ -1,3 +1,4 @@
+//! What an event puts out to the sites, each in its turn.
 ghost use Rattle.std.specs.Prelude.{◌≡◌, ◌∷◌, [], ℕ, Some, IfOk};
 ghost use Rattle.walter_base.specs.declared.message.Record.{Record as Written};
 ghost use Rattle.walter_rules.specs.Deliveries.{acknowledged_to, releases_to};

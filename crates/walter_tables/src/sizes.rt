@@ -1,3 +1,4 @@
+//! Whether a transaction has a place for one more update, and the limits by which it has.
 ghost use Rattle.std.specs.Prelude.{◌≡◌, ◌≤◌};
 ghost use Rattle.walter_base.specs.declared.update.Update.{Update as Change};
 ghost use Rattle.walter_base.specs.Sizes.{AreSmall, size_of_update};

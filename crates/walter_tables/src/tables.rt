@@ -1,3 +1,4 @@
+//! All that a site keeps.
 ghost use Rattle.std.specs.Prelude.{◌≡◌, ◌<◌, ◌≤◌, ℕ, length, IsTrue, IfOk};
 ghost use Rattle.walter_base.specs.Vectors.{most_sites, Covers};
 ghost use Rattle.walter_locks.specs.Parts.{part_of};

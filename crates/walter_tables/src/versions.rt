@@ -1,3 +1,4 @@
+//! The versions and the locks of objects, and what stands in the way of a commit.
 ghost use Rattle.std.specs.Prelude.{◌≡◌, None};
 ghost use Rattle.walter_locks.specs.Parts.{owner_of};
 ghost use Rattle.walter_rules.specs.Conflicts.{first_conflict};

@@ -1,3 +1,4 @@
+//! Tests of numbers and blocks as bytes.
 use std::alloc::Global;
 use std::test::Fail;
 use walter_fields::{Appender, Cursor, NoMemory, Short};

@@ -1,3 +1,4 @@
+//! A test of the scenario that is made of one number.
 use std::test::Fail;
 use walter_make::make;
 use walter_scenario::{Client, Step};

@@ -1,3 +1,4 @@
+//! A test of names as bytes.
 use std::alloc::Global;
 use std::test::Fail;
 use walter_base::{ObjId, SiteId, Tid, Version};

@@ -1,3 +1,4 @@
+//! Tests of records as bytes.
 use crate::parts::{BEFORE, HELL, LISTS, MOST, NUMBER_1, OBJECT, TID, joined, with_objects};
 use std::alloc::Global;
 use std::test::Fail;

@@ -1,3 +1,4 @@
+//! Tests of replies as bytes.
 use std::alloc::Global;
 use std::test::Fail;
 use walter_reply::{ReplyFault, decode, encode, size_of};

@@ -1,3 +1,4 @@
+//! Tests of requests as bytes.
 use std::alloc::Global;
 use std::test::Fail;
 use walter_request::{RequestFault, decode, encode};

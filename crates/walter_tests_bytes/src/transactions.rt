@@ -1,3 +1,4 @@
+//! Tests of transactions as bytes.
 use crate::parts::joined;
 use std::alloc::{AllocError, Global};
 use std::test::Fail;

@@ -1,3 +1,4 @@
+//! Tests of the copies of values, and of the texts of faults.
 use std::test::Fail;
 use walter_base::{
     BadFrame, Cause, Counts, Level, NoMemory, ObjId, Refusal, Reply, Request, SharedBytes, SiteId,

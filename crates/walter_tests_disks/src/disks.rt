@@ -1,3 +1,4 @@
+//! Tests of disks in memory, armed and not, and of their rack.
 use std::alloc::Global;
 use std::test::Fail;
 use walter_disk::{Disk, Failed, Mem, NoMemory, Rack};

@@ -1,3 +1,4 @@
+//! A test of the conflicts that a commit meets.
 ghost use Rattle.std.specs.Prelude.{◌∷◌, [], Some, None, if◌then◌else◌};
 ghost use Rattle.walter_base.specs.Names.{same_object};
 

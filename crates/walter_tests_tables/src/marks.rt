@@ -1,3 +1,4 @@
+//! A test of the durable mark.
 ghost use Rattle.std.specs.Prelude.{◌≡◌, ◌<◌, ◌≤◌};
 ghost use Rattle.walter_base.specs.Vectors.{most_sites};
 

@@ -1,3 +1,4 @@
+//! A test of the own commits that are sent to a peer.
 ghost use Rattle.std.specs.Prelude.{◌<◌};
 
 use walter_base::SiteId;

@@ -1,3 +1,4 @@
+//! A test of the records that tables take in, and of those that they refuse.
 ghost use Rattle.std.specs.Prelude.{◌≡◌, length, IfOk};
 ghost use Rattle.walter_base.specs.Sizes.{CanBeListed, CanBeSpelled};
 ghost use Rattle.walter_rules.specs.Records.{IsRecordAmong};

@@ -1,3 +1,4 @@
+//! A test of votes, and of what they decide.
 ghost use Rattle.std.specs.Prelude.{◌≡◌, ◌+◌, OnOk};
 
 use std::alloc::Global;

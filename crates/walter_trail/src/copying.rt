@@ -1,3 +1,4 @@
+//! Copies of entries.
 ghost use Rattle.std.specs.Prelude.{◌≡◌, IfOk};
 
 use walter_base::{Call, Mem};

@@ -1,3 +1,4 @@
+//! The trails of all sites, merged.
 ghost use Rattle.std.specs.Prelude.{◌≡◌, ◌++◌, ◌<◌, ◌≤◌, length, map, IfOk, OnOk};
 ghost use Rattle.walter_rules.specs.Merges.{merge as merge_of};
 ghost use Rattle.walter_base.specs.Vectors.{most_sites};

@@ -1,3 +1,4 @@
+//! The trail of a site.
 ghost use Rattle.std.specs.Prelude.{◌≡◌, ◌==◌, length};
 
 use std::marker::Model;

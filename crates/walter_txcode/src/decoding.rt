@@ -1,3 +1,4 @@
+//! Reads transactions, and takes exactly the spellings of a format.
 ghost use Rattle.std.specs.Prelude.{◌≡◌, ◌≢◌, ◌≤◌, ◌<◌, ◌^◌, ◌++◌, ℕ, List, length, All, IfOk, IfErr, IfSome, IfNone};
 ghost use Rattle.walter_base.specs.Sizes.{most_in};
 ghost use Rattle.walter_base.specs.declared.names.Tid.{Tid};

@@ -1,3 +1,4 @@
+//! Writes transactions, and counts the bytes that this takes.
 ghost use Rattle.std.specs.Prelude.{◌≡◌, ◌+◌, ◌≤◌, ◌<◌, ◌^◌, ◌++◌, length, All, IfOk};
 ghost use Rattle.walter_base.specs.Sizes.{size_in, size_of_vector, most_in, CanBeSpelled};
 ghost use Rattle.walter_names.specs.Names.{IsTid};

@@ -1,3 +1,4 @@
+//! Why nothing is decoded: the bytes are no spelling, or memory ran out.
 ghost use Rattle.std.specs.Prelude.{◌≡◌};
 ghost use Rattle.walter_txcode.specs.declared.fault.DecodeFault.TheVariants.{Unspelled};
 

@@ -1,3 +1,4 @@
+//! Laws of the spellings of transactions, in one format and in two.
 ghost use Rattle.std.specs.Prelude.{◌≡◌, ◌≢◌, ◌<◌, ◌≤◌, ℕ, length};
 ghost use Rattle.walter_base.specs.Sizes.{size_in, most_in};
 ghost use Rattle.walter_base.specs.declared.format.Format.{Format};

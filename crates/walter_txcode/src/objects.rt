@@ -1,3 +1,4 @@
+//! Objects as bytes: how many, from 1 to 256, and then each behind the one that it is greater than.
 ghost use Rattle.std.specs.Prelude.{◌≡◌, ◌↔◌, ◌+◌, ◌*◌, ◌≤◌, ◌++◌, length, flat_map, All, IsTrue, IfOk, IfErr};
 ghost use Rattle.walter_base.specs.Names.{IsBefore, AreRising};
 ghost use Rattle.walter_base.specs.Sizes.{CanBeListed};

@@ -1,3 +1,4 @@
+//! Updates as bytes: how many, from 1 to 256, and then each with its kind.
 ghost use Rattle.std.specs.Prelude.{◌≡◌, ◌≢◌, ◌+◌, ◌≤◌, ◌<◌, ◌++◌, ℕ, List, length, flat_map, sum_by, All, IfOk, IfErr};
 ghost use Rattle.walter_base.specs.Sizes.{size_of_update, HasShortValue};
 ghost use Rattle.walter_base.specs.declared.names.ObjId.{ObjId};

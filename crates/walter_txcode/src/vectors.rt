@@ -1,3 +1,4 @@
+//! Vectors as bytes, in each of the two formats.
 ghost use Rattle.std.specs.Prelude.{◌≡◌, ◌≢◌, ◌↔◌, ◌+◌, ◌-◌, ◌*◌, ◌≤◌, ◌<◌, ◌^◌, ◌++◌, ℕ, List, length, replicate, All, IsErr, IfOk, IfErr};
 ghost use Rattle.walter_base.specs.declared.format.Format.TheVariants.{First, Second};
 ghost use Rattle.walter_base.specs.Sizes.{most_in, size_of_vector};

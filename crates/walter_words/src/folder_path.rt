@@ -1,3 +1,4 @@
+//! The path of a folder.
 ghost use Rattle.std.specs.Prelude.{◌≡◌, IfOk};
 
 use std::alloc::{AllocError, Global};
@@ -28,6 +29,7 @@ impl FolderPath {
         })
     }
 
+    /// The text of the path, with no copy made.
     pub fn into_string(self) -> String
         ensures { string_bytes result ≡ self }
     {

@@ -1,3 +1,4 @@
+//! Tests of what words ask for, and of the texts.
 use crate::{Command, WordsFault, command_of};
 use std::alloc::Global;
 use std::test::Fail;

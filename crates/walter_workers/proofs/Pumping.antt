@@ -1,9 +1,8 @@
 -- What a pump comes to at a bench whose sites work.
-use Rattle.std.proofs.Common.{◌≡◌, ◌≢◌, ◌<◌, ◌+◌, ◌⊎◌, [], ℕ, zero, suc, true, false, List, length, slice_get, Option, Some, None, Ok, Err, refl, ap, sym, ◌∙◌, subst, arith, inl, inr}
+use Rattle.std.proofs.Common.{◌≡◌, ◌≢◌, ◌<◌, ◌+◌, ◌⊎◌, [], ℕ, zero, suc, true, false, List, length, slice_get, Option, Some, None, Ok, refl, ap, sym, ◌∙◌, subst, arith, inl, inr}
 use Rattle.std.proofs.lemmas.Bool.{cases_lt}
 use Rattle.std.proofs.lemmas.List.{length-map}
 use Rattle.std.proofs.lemmas.Option.{slice_get_within}
-use Rattle.walter_base.specs.declared.memory.NoMemory.{NoMemory}
 use Rattle.walter_base.specs.declared.names.SiteId.{SiteId}
 use Rattle.walter_cell.specs.Cells.{CellValue, Acts}
 use Rattle.walter_cell.specs.Entries.{IsSpent}
@@ -228,8 +227,3 @@ module _ {D : Type 0} (g : Ghosts D) (t : Scenario) (old new : BenchValue D) (ke
                   ])
             ];
       }
-
--- where memory ran out
-pub unpumped : {D : Type 0} (g : Ghosts D) (t : Scenario) (i : ℕ) (old new : BenchValue D) (pumped : List PumpValue) (e : NoMemory)
-    → PumpsOne g t i old new pumped (Err e)
-unpumped g t i old new pumped e = record { works = tt; moves = tt; done = λ is. absurd cc }

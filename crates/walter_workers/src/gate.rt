@@ -1,3 +1,5 @@
+//! What a worker asks before each turn of a client.
+
 /// What a worker asks before each turn of a client, while it holds no lock. It may wait.
 pub trait Gate: Sync {
     /// The client is about to have its turn. Its turns are counted from 0.

@@ -1,4 +1,4 @@
-// The work is ended alone, in rounds.
+//! The work is ended alone, in rounds.
 ghost use Rattle.std.specs.Prelude.{◌≡◌, ◌<◌, ◌⊎◌, ◌^◌, List, length, slice_get, Some, Ok, IfOk, OnOk, true, false};
 ghost use Rattle.walter_cell.specs.Lines.{CanFail};
 ghost use Rattle.walter_cluster.specs.Benches.{AreAllConnected, IsOf, IsToldAt, Keeps, trails_of};

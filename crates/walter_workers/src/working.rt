@@ -1,4 +1,4 @@
-// Threads work on the cells of a bench, and then the work is ended alone.
+//! Threads work on the cells of a bench, and then the work is ended alone.
 ghost use Rattle.std.specs.Prelude.{◌≡◌, ◌<◌, ◌≤◌, ◌+◌, ◌^◌, ◌++◌, length, All, OnOk};
 ghost use Rattle.walter_base.specs.Vectors.{most_sites};
 ghost use Rattle.walter_cell.specs.Lines.{CanFail};

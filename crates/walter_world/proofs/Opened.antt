@@ -1,5 +1,5 @@
 -- The sites of a new world, one after another: each has come up, and nothing else has happened.
-use Rattle.std.proofs.Common.{◌≡◌, ℕ, ◌+◌, ◌<◌, ◌≤◌, List, [], ◌∷◌, ◌++◌, length, slice_get, false, Some, None, reverse, refl, ap, sym, ◌∙◌, subst, arith, inl, inr}
+use Rattle.std.proofs.Common.{◌≡◌, ℕ, ◌+◌, ◌<◌, ◌≤◌, List, [], ◌∷◌, ◌++◌, false, None, reverse, refl, ap, sym, ◌∙◌, subst, arith, inl, inr}
 use Rattle.std.specs.Prelude.{All}
 use Rattle.std.proofs.lemmas.List.{length-append, length-map}
 use Rattle.std.proofs.lemmas.List.Elements.{All-nil}
@@ -44,12 +44,6 @@ none_yet catalog i seat stands trail = record {
   young = subst (λ (es : List Entry). clock (reverse es) < 4294967295) (sym trail) (omega arith);
   sized = tt;
   finds = tt;
-}
-
-pub none_opened : (catalog : Catalog) (seats : List Seat) → seats ≡ [] → HaveOpened catalog 0 seats
-none_opened catalog seats none = record {
-  one_each = ap length none;
-  each = λ i seat at. let past : slice_get [] i ≡ Some seat = ap (λ (s : List Seat). slice_get s i) (sym none) ∙ at in absurd cc;
 }
 
 pub open_more : (catalog : Catalog) (n : ℕ) (seats : List Seat) (seat : Seat) → HaveOpened catalog n seats

@@ -1,7 +1,6 @@
 -- The trails of the sites of a world, by their places.
-use Rattle.std.proofs.Common.{◌≡◌, ℕ, ◌<◌, ◌≤◌, List, [], length, map, reverse, slice_get, Option, Some, option_map, ap, sym, ◌∙◌, subst, arith}
+use Rattle.std.proofs.Common.{◌≡◌, ℕ, ◌<◌, List, [], map, reverse, slice_get, Option, Some, option_map, ap, sym, ◌∙◌, subst}
 use Rattle.std.specs.Prelude.{unwrap_or}
-use Rattle.std.proofs.lemmas.List.{length-map, get_or_past}
 use Rattle.std.proofs.lemmas.Option.{slice_get-map, unwrap_or-slice_get}
 use Rattle.walter_base.specs.declared.names.SiteId.{SiteId}
 use Rattle.walter_rules.specs.declared.entry.Entry.{Entry}
@@ -18,11 +17,6 @@ trail_here seats i seat at =
     sym (unwrap_or-slice_get (map f seats) i [])
     ∙ ap (λ (o : Option (List Entry)). unwrap_or o []) (slice_get-map f seats i ∙ ap (option_map f) at)
 
-pub trail_past : (seats : List Seat) (i : ℕ) → length seats ≤ i → trail_of (trails_of seats) (site_at i) ≡ []
-trail_past seats i past =
-    let f = λ (s : Seat). s.entries.items in
-    get_or_past (map f seats) i [] (let l = length-map seats f in omega (arith, l, past))
-
 -- one of them has so few stamps
 pub early_at : (seats : List Seat) (i : ℕ) (seat : Seat) (bound : ℕ)
     → ((j : SiteId) → clock (reverse (trail_of (trails_of seats) j)) < bound) → slice_get seats i ≡ Some seat
@@ -35,8 +29,3 @@ pub early_here : (seats : List Seat) (i : ℕ) (seat : Seat) (bound : ℕ) → s
     → clock (reverse seat.entries.items) < bound → clock (reverse (trail_of (trails_of seats) (site_at i))) < bound
 early_here seats i seat bound at early =
     subst (λ (t : List Entry). clock (reverse t) < bound) (sym (trail_here seats i seat at)) early
-
-pub early_past : (seats : List Seat) (i : ℕ) (bound : ℕ) → 0 < bound → length seats ≤ i
-    → clock (reverse (trail_of (trails_of seats) (site_at i))) < bound
-early_past seats i bound some past =
-    subst (λ (t : List Entry). clock (reverse t) < bound) (sym (trail_past seats i past)) some

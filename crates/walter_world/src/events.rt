@@ -1,3 +1,4 @@
+//! What may happen to a site without a disk, and with which fate.
 use walter_base::{Bytes, SiteId};
 
 /// What becomes of the record that an event brings.

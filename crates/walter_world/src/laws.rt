@@ -1,3 +1,4 @@
+//! Laws of the sites without disks: their trails are right and linked, whatever happens.
 ghost use Rattle.std.specs.Prelude.{◌<◌, List};
 ghost use Rattle.walter_base.specs.declared.catalog.Catalog.{Catalog};
 ghost use Rattle.walter_linked.specs.Catalogs.{IsWhole};

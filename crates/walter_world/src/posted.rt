@@ -1,3 +1,4 @@
+//! The packets that a trail has put out, found by number.
 ghost use Rattle.std.specs.Prelude.{◌≡◌, ◌<◌, ◌+◌, ◌-◌, length, slice_get, Some, IfOk, IfErr};
 ghost use Rattle.walter_machine.specs.Posts.{of_number};
 ghost use Rattle.walter_rules.specs.Merges.{put_out_to, sent_to};

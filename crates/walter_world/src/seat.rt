@@ -1,3 +1,4 @@
+//! A site without a disk, with its trail.
 ghost use Rattle.std.specs.Prelude.{◌≡◌, ◌<◌, ◌++◌, ◌∷◌, [], ℕ, false, None, reverse, IfOk, OnErr, OnOk};
 ghost use Rattle.walter_machine.specs.Machines.{catalog_in, site_in, tables_in, is_up, HasRoom, HasStanding, IsCountable, IsCounted};
 ghost use Rattle.walter_machine.specs.Posts.{stamp_behind};

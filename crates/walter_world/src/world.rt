@@ -1,3 +1,4 @@
+//! The sites of a catalog without disks.
 ghost use Rattle.std.specs.Prelude.{◌≡◌, ◌<◌, ◌≤◌, ◌+◌, ◌↔◌, ◌∷◌, [], IsTrue, ℕ, length, false, IfOk, OnErr, OnOk};
 ghost use Rattle.walter_base.specs.Vectors.{most_sites};
 ghost use Rattle.walter_linked.specs.Catalogs.{IsWhole};
