@@ -10,19 +10,17 @@ use Rattle.walter_history.specs.declared.steps.Step.{Step}
 use Rattle.walter_history.specs.Rows.{sees_row}
 use Rattle.walter_base.specs.declared.names.Version.{Version}
 use Rattle.walter_base.specs.Conflicts.{sees_version}
-use Rattle.walter_history.specs.Reaches.{Reaches, IsWide}
+use Rattle.walter_history.specs.Reaches.{Reaches}
 use Rattle.walter_history.specs.Steps.{told, AreLinked, AreSeenBefore, AreBehind}
 
-pub linked_push : (steps : List Step) (step : Step) → AreLinked steps → All (λ s. Reaches step.before s.row.version) steps → IsWide step.before → AreLinked (steps ++ step ∷ [])
-linked_push steps step linked reach wide = record {
+pub linked_push : (steps : List Step) (step : Step) → AreLinked steps → All (λ s. Reaches step.before s.row.version) steps → AreLinked (steps ++ step ∷ [])
+linked_push steps step linked reach = record {
   pairs = all_pairs_push (λ a b. Reaches b.before a.row.version) steps step linked.pairs (λ k d within. reach k d within);
-  wide = All-push (λ (s : Step). IsWide s.before) steps step linked.wide wide;
 }
 
 pub linked_filter : (p : Step → Bool) (steps : List Step) → AreLinked steps → AreLinked (filter p steps)
 linked_filter p steps linked = record {
   pairs = AllPairs-filter (λ a b. Reaches b.before a.row.version) p steps linked.pairs;
-  wide = All-filter p (λ (s : Step). IsWide s.before) steps linked.wide;
 }
 
 pub told_filter : (p : Row → Bool) (steps : List Step) → told (filter (λ s. p s.row) steps) ≡ filter p (told steps)
