@@ -9,13 +9,12 @@ use Rattle.walter_history.specs.declared.steps.Step.{Step}
 use Rattle.walter_history.specs.Rows.{sees_row}
 use Rattle.walter_base.specs.declared.names.Version.{Version}
 use Rattle.walter_base.specs.Conflicts.{sees_version}
-use Rattle.walter_history.specs.Reaches.{Reaches, IsWide}
+use Rattle.walter_history.specs.Reaches.{Reaches}
 use Rattle.walter_history.specs.Steps.{told, AreLinked, AreSeenBefore, AreBehind}
 
 pub linked_filter : (p : Step → Bool) (steps : List Step) → AreLinked steps → AreLinked (filter p steps)
 linked_filter p steps linked = record {
   pairs = AllPairs-filter (λ a b. Reaches b.before a.row.version) p steps linked.pairs;
-  wide = All-filter p (λ (s : Step). IsWide s.before) steps linked.wide;
 }
 
 pub told_filter : (p : Row → Bool) (steps : List Step) → told (filter (λ s. p s.row) steps) ≡ filter p (told steps)

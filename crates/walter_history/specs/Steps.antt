@@ -3,7 +3,7 @@
 use Rattle.std.specs.Prelude.{◌≡◌, ◌++◌, ℕ, true, List, map, take, All, AllPairs}
 use Rattle.walter_base.specs.declared.update.Row.{Row}
 use Rattle.walter_history.specs.declared.steps.Step.{Step}
-use Rattle.walter_history.specs.Reaches.{Reaches, IsWide}
+use Rattle.walter_history.specs.Reaches.{Reaches}
 use Rattle.walter_history.specs.Rows.{sees_row}
 
 abbrev pub told : List Step → List Row
@@ -12,7 +12,6 @@ told steps = map (λ step. step.row) steps
 -- each step's vector sees the steps before it
 pub record AreLinked (steps : List Step) : Type 0 where
   pub pairs : AllPairs (λ a b. Reaches b.before a.row.version) steps
-  pub wide : All (λ step. IsWide step.before) steps
 
 -- the rows of the steps, and how many more can be pushed without memory
 pub record Stepped : Type 0 where

@@ -3,11 +3,11 @@
 ghost use Rattle.std.specs.Prelude.{◌≡◌, ◌<◌, ◌≤◌, ◌+◌, ◌++◌, ◌∷◌, ◌↔◌, [], true, not, filter, take, length, All, IsTrue, OnOk};
 ghost use Rattle.walter_base.specs.declared.names.Version.{Version as Named};
 ghost use Rattle.walter_base.specs.Conflicts.{sees_version};
-ghost use Rattle.walter_history.specs.Reaches.{Reaches, IsWide};
+ghost use Rattle.walter_history.specs.Reaches.{Reaches};
 ghost use Rattle.walter_history.specs.Rows.{sees_row};
 ghost use Rattle.walter_history.specs.Steps.{told, AreLinked, AreSeenBefore, AreBehind};
 
-use crate::reach::{is_covered, no_reach, with_version};
+use crate::reach::{Reach, is_covered, no_reach, with_version};
 use crate::room::make_spare;
 use std::alloc::Global;
 use std::marker::Model;
@@ -17,7 +17,7 @@ use walter_base::{Mem, Row, Vts};
 #[derive(Debug, Drop)]
 pub struct Step {
     pub row: Row,
-    pub before: Option<Vts>,
+    before: Option<Reach>,
 }
 
 /// The changes of a set. Contracts see their rows.
@@ -103,10 +103,9 @@ impl Steps {
 }
 
 /// A vector that sees all steps, if one is known.
-fn reach(steps: &[Step]) -> Option<Vts>
+fn reach(steps: &[Step]) -> Option<Reach>
     requires { AreLinked steps.now }
-    ensures sees { All (λ step. Reaches result step.row.version) steps.now }
-    ensures wide { IsWide result }
+    ensures { All (λ step. Reaches result step.row.version) steps.now }
 {
     match steps.split_last() {
         None => no_reach(),
@@ -115,7 +114,7 @@ fn reach(steps: &[Step]) -> Option<Vts>
 }
 
 /// Whether both vectors see whatever the first one sees.
-fn both_cover(vector: &Option<Vts>, from: &Vts, to: &Vts) -> bool
+fn both_cover(vector: &Option<Reach>, from: &Vts, to: &Vts) -> bool
     ensures { IsTrue result → (version : Named) → Reaches vector.now version
         → (sees_version from.now version ≡ true) × (sees_version to.now version ≡ true) }
 {

@@ -3,7 +3,7 @@
 ghost use Rattle.std.specs.Prelude.{◌≡◌, ◌<◌, ◌≤◌, ◌+◌, ◌++◌, ◌∷◌, [], None, Some, OnOk, IfErr};
 ghost use Rattle.walter_base.specs.Conflicts.{first_outside};
 
-use crate::reach::{is_covered, no_reach, with_version};
+use crate::reach::{Reach, is_covered, no_reach, with_version};
 use crate::room::make_spare;
 use crate::rows::all_seen;
 use std::alloc::Global;
@@ -14,19 +14,19 @@ use walter_base::{Mem, Version, Vts};
 #[derive(Drop)]
 pub struct Versions {
     items: Vec<Version>,
-    reach: Option<Vts>,
+    reach: Option<Reach>,
 }
 
 impl Model for Versions {
     ghost use Rattle.std.specs.Prelude.{◌-◌, All, vec_len, vec_capacity};
-    ghost use Rattle.walter_history.specs.Reaches.{Reaches, IsWide};
+    ghost use Rattle.walter_history.specs.Reaches.{Reaches};
     ghost use Rattle.walter_history.specs.Versions.{Versioned};
 
     ghost Value = { Versioned };
 
     ghost view = { λ s. record { versions = s.items.items; room = vec_capacity s.items - vec_len s.items } };
 
-    ghost invariant = { λ s. All (Reaches s.reach) s.items.items × IsWide s.reach };
+    ghost invariant = { λ s. All (Reaches s.reach) s.items.items };
 }
 
 impl Versions {

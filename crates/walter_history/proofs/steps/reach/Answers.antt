@@ -4,8 +4,8 @@ use Rattle.walter_history.specs.Steps.{AreLinked}
 use Rattle.walter_history.proofs.Linked.{reach_all}
 use Rattle.walter_history.proofs.steps.reach.Goals as goal
 
-pub returns-in-Some-clause-sees : goal.returns-in-Some-clause-sees
-returns-in-Some-clause-sees c =
+pub returns-in-Some : goal.returns-in-Some
+returns-in-Some c =
     let split = c.in-Some.ensures.cases.0 in
     let vector = c.with_version.result in
     subst (λ ss. All (λ s. Reaches vector s.row.version) ss) (sym split)

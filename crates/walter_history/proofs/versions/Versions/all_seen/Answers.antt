@@ -7,4 +7,4 @@ pub returns-then-is_covered-clause-seen : goal.returns-then-is_covered-clause-se
 returns-then-is_covered-clause-seen c =
     let by = c.args.by.now in
     ap (λ s. first_outside by s.versions) (sym c.self.view_is)
-    ∙ none_outside by c.self.inside.items.items (λ k d within. c.is_covered.ensures c.if-is_covered.true _ (c.self.invariant.0 k d within))
+    ∙ none_outside by c.self.inside.items.items (λ k d within. c.is_covered.ensures c.if-is_covered.true _ (c.self.invariant k d within))
