@@ -1,5 +1,6 @@
 -- What the first restart of a site comes to.
 use Rattle.std.specs.Prelude.{◌≡◌, ◌≢◌, ◌⊎◌, ◌<◌, ◌≤◌, ℕ, List, [], ◌∷◌, length, Some, Result, Ok, Err}
+use Rattle.walter_base.specs.declared.format.Format.TheVariants.{First}
 use Rattle.walter_base.specs.declared.message.Record.TheVariants.{Boot}
 use Rattle.walter_disk.specs.declared.disk.Disk.{Ghosts}
 use Rattle.walter_disk.specs.Images.{Only}
@@ -22,7 +23,7 @@ HasNoRecord shape bytes = (bytes ≡ []) ⊎ HasContent shape bytes []
 
 -- a book without records, or with the first Boot
 abbrev pub MayHaveBoot : Shape → List ℕ → Type 0
-MayHaveBoot shape image = HasContent shape image [] ⊎ HasContent shape image (record_spelled (Boot 1) ∷ [])
+MayHaveBoot shape image = HasContent shape image [] ⊎ HasContent shape image (record_spelled First (Boot 1) ∷ [])
 
 -- What a crash within a first restart leaves of a disk with these bytes: these; where there were none, the first bytes of a
 -- book of so many areas; where there was no record, none, or the first Boot.

@@ -5,20 +5,35 @@ use Rattle.walter_base.specs.declared.message.Record.{Record}
 use Rattle.walter_base.specs.declared.names.SiteId.{SiteId}
 use Rattle.walter_checkpoint.specs.Areas.{shape_by, HasTwo}
 use Rattle.walter_journal.specs.Layout as journal
+use Rattle.walter_base.specs.declared.format.Format.{Format}
 use Rattle.walter_record.specs.Spelling.{record_spelled, HasRecordSpelling}
 use Rattle.walter_rules.specs.declared.event.Event.{Event}
-use Rattle.walter_rules.specs.Layouts.{Layout, one_area, two_areas}
+use Rattle.walter_rules.specs.Layouts.{Layout, one_area, two_areas, header_of, Placed, placed, format_at}
 use Rattle.walter_rules.specs.Rule.{rule}
 use Rattle.walter_rules.specs.Standing.{Standing, settled}
 
 -- the bytes of a journal that is laid out so, with these bodies
 abbrev pub HasBodies : Layout → List ℕ → List (List ℕ) → Type 0
-HasBodies (one_area capacity) bytes bodies = journal.HasContent bytes bodies
-HasBodies (two_areas capacity sites) bytes bodies = HasTwo (shape_by capacity sites) bytes bodies
+HasBodies (one_area capacity header) bytes bodies = journal.HasContent bytes bodies
+HasBodies (two_areas capacity sites header) bytes bodies = HasTwo (shape_by capacity sites) bytes bodies
 
--- and with these records
+-- a record in the format in force at its place, and the bodies of records behind a header that names this format
+abbrev pub spelled_there : Placed → List ℕ
+spelled_there it = record_spelled it.0 it.1
+
+abbrev pub spelled : Format → List Record → List (List ℕ)
+spelled header records = map spelled_there (placed header records)
+
+-- each of them has a spelling at its place, among so many sites
+abbrev pub HasSpellingThere : ℕ → Placed → Type 0
+HasSpellingThere sites it = HasRecordSpelling it.0 sites it.1
+
+abbrev pub HaveSpellings : Format → ℕ → List Record → Type 0
+HaveSpellings header sites records = All (HasSpellingThere sites) (placed header records)
+
+-- a journal that is laid out so has these records
 abbrev pub HasRecords : Layout → List ℕ → List Record → Type 0
-HasRecords layout bytes records = HasBodies layout bytes (map record_spelled records)
+HasRecords layout bytes records = HasBodies layout bytes (spelled (header_of layout) records)
 
 -- with these records; or with the one in flight behind them, where one is
 abbrev pub MayHaveRecords : Layout → List Record → Option Record → List ℕ → Type 0
@@ -36,9 +51,10 @@ HasOneMore layout records (Some rec) image = HasRecords layout image (records ++
 abbrev pub MayHaveNext : Catalog → Layout → SiteId → Standing → Event → Option Record → List ℕ → Type 0
 MayHaveNext catalog layout i S event kept image =
     MayHaveRecords layout S.records S.flight image
-    ⊎ HasOneMore layout (settled catalog i kept S).records (rule catalog i (settled catalog i kept S) event).wrote image
+    ⊎ HasOneMore layout (settled catalog i kept S).records
+        (rule (header_of layout) catalog i (settled catalog i kept S) event).wrote image
 
--- each record of a site among so many has a spelling, and the one in flight
-pub record AreSpelled (sites : ℕ) (S : Standing) : Type 0 where
-  pub records : All (HasRecordSpelling sites) S.records
-  pub flight : IfSome S.flight (HasRecordSpelling sites)
+-- each record of a site among so many has a spelling at its place, and the one in flight behind them
+pub record AreSpelled (header : Format) (sites : ℕ) (S : Standing) : Type 0 where
+  pub records : HaveSpellings header sites S.records
+  pub flight : IfSome S.flight (HasRecordSpelling (format_at header S.records) sites)

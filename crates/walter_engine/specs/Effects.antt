@@ -1,6 +1,8 @@
 -- What an event comes to at a site over its journal, and what it leaves.
 use Rattle.std.specs.Prelude.{◌≡◌, ◌⊎◌, ◌+◌, ◌≤◌, ℕ, false, List, map, take, slice_get, Option, Some, None, All, IfSome, IsSome, is_some}
 use Rattle.walter_base.specs.declared.catalog.Catalog.{Catalog}
+use Rattle.walter_base.specs.declared.format.Format.{Format}
+use Rattle.walter_base.specs.declared.format.Format.TheVariants.{First}
 use Rattle.walter_base.specs.declared.message.Record.{Record}
 use Rattle.walter_base.specs.declared.names.SiteId.{SiteId}
 use Rattle.walter_disk.specs.declared.disk.Disk.{Ghosts}
@@ -9,7 +11,7 @@ use Rattle.walter_engine.specs.declared.answers.Effect.{Effect}
 use Rattle.walter_engine.specs.declared.answers.RefusedRestart.{RefusedRestart}
 use Rattle.walter_engine.specs.declared.answers.RefusedRestart.TheVariants.{Foreign, Damaged, Unreadable, LastEpoch}
 use Rattle.walter_engine.specs.declared.engine.Engine.{Engine}
-use Rattle.walter_engine.specs.Contents.{MayHaveNext}
+use Rattle.walter_engine.specs.Contents.{MayHaveNext, spelled, HaveSpellings}
 use Rattle.walter_engine.specs.Engines.{Stands, OfDisk, OfDisks, IsSameEngine, catalog_in, site_in, layout_in, shape_in}
 use Rattle.walter_checkpoint.specs.Areas.{Shape, HasContent, IsForeign, IsDamaged}
 use Rattle.walter_checkpoint.specs.Books.{calls_of_pack}
@@ -23,43 +25,44 @@ use Rattle.walter_rules.specs.declared.event.Event.{Event}
 use Rattle.walter_rules.specs.declared.event.Event.TheVariants.{Restart}
 use Rattle.walter_rules.specs.declared.outcome.Outcome.TheVariants.{Refused}
 use Rattle.walter_rules.specs.Knowledge.{fresh}
-use Rattle.walter_rules.specs.Layouts.{Layout}
+use Rattle.walter_rules.specs.Layouts.{Layout, in_force}
 use Rattle.walter_rules.specs.Records.{CanFollow, CanAllFollow, replayed}
 use Rattle.walter_rules.specs.Standing.{Standing, settled, stands_after}
 use Rattle.walter_rules.specs.Trails.{Comes, IsFound}
 
 -- ---- why a restart is refused
 
--- the bodies spell these records, of which each can follow those before it
-pub record Tell (catalog : Catalog) (i : SiteId) (bodies : List (List ℕ)) (records : List Record) : Type 0 where
-  pub spell : bodies ≡ map record_spelled records
-  pub spelled : All (HasRecordSpelling catalog.sites) records
+-- the bodies, behind a header that names this format, spell these records, of which each can follow those before it
+pub record Tell (header : Format) (catalog : Catalog) (i : SiteId) (bodies : List (List ℕ)) (records : List Record) : Type 0 where
+  pub spell : bodies ≡ spelled header records
+  pub spellings : HaveSpellings header catalog.sites records
   pub follow : CanAllFollow catalog i fresh records
 
--- the first bodies do; the one with this index spells no record, or one that can't follow
-pub record IsUnreadable (catalog : Catalog) (i : SiteId) (bodies : List (List ℕ)) (index : ℕ) : Type 0 where
+-- the first bodies do; the one with this index spells no record in the format in force there, or one that can't follow
+pub record IsUnreadable (header : Format) (catalog : Catalog) (i : SiteId) (bodies : List (List ℕ)) (index : ℕ) : Type 0 where
   pub records : List Record
   pub body : List ℕ
-  pub front : Tell catalog i (take index bodies) records
+  pub front : Tell header catalog i (take index bodies) records
   pub within : slice_get bodies index ≡ Some body
-  pub wrong : (rec : Record) → HasRecordSpelling catalog.sites rec → body ≡ record_spelled rec
+  pub wrong : let format = in_force header (replayed catalog i fresh records).format in
+      (rec : Record) → HasRecordSpelling format catalog.sites rec → body ≡ record_spelled format rec
       → ¬ CanFollow catalog i (replayed catalog i fresh records) rec
 
 -- by the bodies that the journal has: one of them spells no record that can stand there, or the epoch that they tell is
 -- the last
-abbrev pub IsRefusedOver : Catalog → SiteId → List (List ℕ) → RefusedRestart → Type 0
-IsRefusedOver catalog i bodies Foreign = ⊥
-IsRefusedOver catalog i bodies (Damaged at length) = ⊥
-IsRefusedOver catalog i bodies (Unreadable index) = IsUnreadable catalog i bodies index
-IsRefusedOver catalog i bodies LastEpoch =
-    (records : List Record) × Tell catalog i bodies records × ((replayed catalog i fresh records).epoch ≡ 4294967295)
+abbrev pub IsRefusedOver : Format → Catalog → SiteId → List (List ℕ) → RefusedRestart → Type 0
+IsRefusedOver header catalog i bodies Foreign = ⊥
+IsRefusedOver header catalog i bodies (Damaged at length) = ⊥
+IsRefusedOver header catalog i bodies (Unreadable index) = IsUnreadable header catalog i bodies index
+IsRefusedOver header catalog i bodies LastEpoch =
+    (records : List Record) × Tell header catalog i bodies records × ((replayed catalog i fresh records).epoch ≡ 4294967295)
 
 -- by the bytes that the disk has: they are no book, or a damaged one, or one with such bodies
 abbrev pub IsRefusedFor : Catalog → Shape → SiteId → List ℕ → RefusedRestart → Type 0
 IsRefusedFor catalog shape i bytes Foreign = IsForeign shape bytes
 IsRefusedFor catalog shape i bytes (Damaged at length) = IsDamaged shape bytes at length
 IsRefusedFor catalog shape i bytes why =
-    (bodies : List (List ℕ)) × HasContent shape bytes bodies × IsRefusedOver catalog i bodies why
+    (bodies : List (List ℕ)) × HasContent shape bytes bodies × IsRefusedOver First catalog i bodies why
 
 -- ---- what an event comes to
 

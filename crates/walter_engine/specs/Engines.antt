@@ -1,6 +1,7 @@
 -- How an engine stands: what is known of its disk, and of the site on it.
 use Rattle.std.specs.Prelude.{◌≡◌, ◌==◌, if◌then◌else◌, ℕ, Bool, Option, IfSome}
 use Rattle.walter_base.specs.declared.catalog.Catalog.{Catalog}
+use Rattle.walter_base.specs.declared.format.Format.TheVariants.{First}
 use Rattle.walter_base.specs.declared.names.SiteId.{SiteId}
 use Rattle.walter_checkpoint.specs.Areas.{Shape, shape_by}
 use Rattle.walter_disk.specs.declared.disk.Disk.{Ghosts}
@@ -9,7 +10,7 @@ use Rattle.walter_engine.specs.Contents.{AreSpelled}
 use Rattle.walter_engine.specs.Stores.{disk_under, IsStored}
 use Rattle.walter_machine.specs.Machines.{HasStanding}
 use Rattle.walter_machine.specs.Machines as machine
-use Rattle.walter_rules.specs.Layouts.{Layout, one_area, two_areas}
+use Rattle.walter_rules.specs.Layouts.{Layout, one_area, two_areas, header_of}
 use Rattle.walter_rules.specs.Standing.{Standing, unmade}
 use Rattle.walter_tables.specs.declared.tables.Tables.{Tables}
 
@@ -24,7 +25,7 @@ capacity_in engine = engine.capacity
 
 -- the layout that a new journal gets, of so many areas
 abbrev pub layout_for : (areas capacity sites : ℕ) → Layout
-layout_for areas capacity sites = if areas == 2 then two_areas capacity sites else one_area capacity
+layout_for areas capacity sites = if areas == 2 then two_areas capacity sites First else one_area capacity First
 
 -- how its journal is laid out: as it was asked for, or, once the site has begun, as it was found
 abbrev pub layout_in : {D : Type 0} {g : Ghosts D} → Engine D g → Layout
@@ -59,7 +60,7 @@ OfDisks old new R = OfDisk old (λ before. OfDisk new (λ after. R before after)
 -- the engine stands so
 pub record Stands {D : Type 0} {g : Ghosts D} (engine : Engine D g) (S : Standing) : Type 0 where
   pub machine : HasStanding engine.machine S
-  pub spelled : AreSpelled (catalog_in engine).sites S
+  pub spellings : AreSpelled (header_of (layout_in engine)) (catalog_in engine).sites S
   pub stored : IsStored (layout_in engine) S engine.book engine.disk
 
 -- of the same site

@@ -1,5 +1,5 @@
 -- What a restart comes to over a book that was loaded.
-use Rattle.std.specs.Prelude.{◌≡◌, ◌⊎◌, ℕ, false, List, [], ◌∷◌, map, Option, Some, None, IfSome}
+use Rattle.std.specs.Prelude.{◌≡◌, ◌⊎◌, ℕ, false, List, [], ◌∷◌, Option, Some, None, IfSome}
 use Rattle.walter_base.specs.declared.catalog.Catalog.{Catalog}
 use Rattle.walter_base.specs.declared.names.SiteId.{SiteId}
 use Rattle.walter_checkpoint.specs.Books.{disk_of, shape_of, left_of, calls_of_pack, StandsFor, HasRoom, HasRoomBehind}
@@ -7,7 +7,7 @@ use Rattle.walter_checkpoint.specs.declared.book.Book.{Book}
 use Rattle.walter_disk.specs.declared.disk.Disk.{Ghosts}
 use Rattle.walter_engine.specs.declared.answers.RefusedRestart.{RefusedRestart}
 use Rattle.walter_engine.specs.declared.answers.RefusedRestart.TheVariants as refused
-use Rattle.walter_engine.specs.Contents.{AreSpelled}
+use Rattle.walter_engine.specs.Contents.{AreSpelled, spelled}
 use Rattle.walter_engine.specs.Effects.{TakesNoEpoch}
 use Rattle.walter_engine.specs.Restarts.{left_over}
 use Rattle.walter_engine.specs.Stores.{IsLeft, layout_of}
@@ -15,12 +15,11 @@ use Rattle.walter_journal.specs.declared.fault.JournalFault.{JournalFault}
 use Rattle.walter_journal.specs.declared.fault.JournalFault.TheVariants as fault
 use Rattle.walter_machine.specs.declared.machine.Machine.{Machine}
 use Rattle.walter_machine.specs.States.{AreTold}
-use Rattle.walter_record.specs.Spelling.{record_spelled}
 use Rattle.walter_rules.specs.declared.entry.Came.{Came}
 use Rattle.walter_rules.specs.declared.event.Event.TheVariants.{Restart}
 use Rattle.walter_rules.specs.declared.outcome.Outcome.{Outcome}
 use Rattle.walter_rules.specs.declared.outcome.Outcome.TheVariants.{Failed, Memory, Refused}
-use Rattle.walter_rules.specs.Layouts.{Layout}
+use Rattle.walter_rules.specs.Layouts.{Layout, header_of}
 use Rattle.walter_rules.specs.Standing.{Standing, stands_after}
 use Rattle.walter_rules.specs.Trails.{Comes}
 
@@ -29,8 +28,8 @@ pub record LiesIn {D : Type 0} {g : Ghosts D} (catalog : Catalog) (layout : Layo
     (book : Book D g) (bodies : List (List ℕ)) : Type 0 where
   pub down : S.up ≡ false
   pub told : AreTold catalog i S
-  pub spelled : AreSpelled catalog.sites S
-  pub is : bodies ≡ map record_spelled S.records
+  pub spellings : AreSpelled (header_of layout) catalog.sites S
+  pub is : bodies ≡ spelled (header_of layout) S.records
   pub laid : layout_of book ≡ layout
   pub stands : StandsFor book bodies
 

@@ -1,6 +1,7 @@
 -- What a restart comes to over what the disk has, whoever left it there.
 use Rattle.std.specs.Prelude.{◌≡◌, ◌≢◌, ◌⊎◌, ◌+◌, ◌-◌, ◌/◌, ◌<◌, ℕ, List, [], length, Option, Some, None}
 use Rattle.walter_base.specs.declared.catalog.Catalog.{Catalog}
+use Rattle.walter_base.specs.declared.format.Format.{Format}
 use Rattle.walter_base.specs.declared.message.Record.{Record}
 use Rattle.walter_base.specs.declared.message.Record.TheVariants.{Boot}
 use Rattle.walter_base.specs.declared.names.SiteId.{SiteId}
@@ -17,26 +18,26 @@ use Rattle.walter_rules.specs.declared.entry.Came.{Came}
 use Rattle.walter_rules.specs.declared.outcome.Outcome.{Outcome}
 use Rattle.walter_rules.specs.declared.outcome.Outcome.TheVariants.{Taken, Failed, Full, Memory, Refused}
 use Rattle.walter_rules.specs.Knowledge.{fresh}
-use Rattle.walter_rules.specs.Layouts.{Layout, one_area, two_areas}
+use Rattle.walter_rules.specs.Layouts.{Layout, one_area, two_areas, header_of}
 use Rattle.walter_rules.specs.Records.{replayed}
 
 -- what comes of bodies, where so many bytes are left: they spell records that can follow each other, and the next epoch
 -- is written behind these, or finds no place; or it is refused for what they are; or a fault or want of memory comes first
-abbrev pub ComesOf : Catalog → SiteId → ℕ → List (List ℕ) → Option Record → Option RefusedRestart → Outcome → Type 0
-ComesOf catalog i left bodies wrote why Taken = (records : List Record) × Tell catalog i bodies records
+abbrev pub ComesOf : Format → Catalog → SiteId → ℕ → List (List ℕ) → Option Record → Option RefusedRestart → Outcome → Type 0
+ComesOf header catalog i left bodies wrote why Taken = (records : List Record) × Tell header catalog i bodies records
     × (wrote ≡ Some (Boot ((replayed catalog i fresh records).epoch + 1)))
-ComesOf catalog i left bodies wrote why (Full need free) =
-    (records : List Record) × Tell catalog i bodies records × (left < 10)
-ComesOf catalog i left bodies wrote why Refused =
-    (cause : RefusedRestart) × (why ≡ Some cause) × IsRefusedOver catalog i bodies cause
-ComesOf catalog i left bodies wrote why Failed = why ≡ None
-ComesOf catalog i left bodies wrote why Memory = why ≡ None
-ComesOf catalog i left bodies wrote why outcome = ⊥
+ComesOf header catalog i left bodies wrote why (Full need free) =
+    (records : List Record) × Tell header catalog i bodies records × (left < 10)
+ComesOf header catalog i left bodies wrote why Refused =
+    (cause : RefusedRestart) × (why ≡ Some cause) × IsRefusedOver header catalog i bodies cause
+ComesOf header catalog i left bodies wrote why Failed = why ≡ None
+ComesOf header catalog i left bodies wrote why Memory = why ≡ None
+ComesOf header catalog i left bodies wrote why outcome = ⊥
 
 -- how many bytes are left behind bodies: of two areas, where all are packed
 abbrev pub left_over : Layout → List (List ℕ) → ℕ
-left_over (one_area capacity) bodies = capacity - end_behind bodies
-left_over (two_areas capacity sites) bodies = (capacity - 9) / 2 - length (renewed_by sites bodies)
+left_over (one_area capacity header) bodies = capacity - end_behind bodies
+left_over (two_areas capacity sites header) bodies = (capacity - 9) / 2 - length (renewed_by sites bodies)
 
 -- no book can be loaded from these bytes: they are none, or a damaged one
 abbrev pub IsUnloadable : Shape → List ℕ → Option RefusedRestart → Type 0
@@ -50,11 +51,12 @@ pub data RestartsOver (catalog : Catalog) (shape : Shape) (asked : Layout) (i : 
     (images : List ℕ → Type 0) (came : Came) (why : Option RefusedRestart) : Type 0 where
   hindered : (came.outcome ≡ Failed) ⊎ (came.outcome ≡ Memory) → why ≡ None
       → RestartsOver catalog shape asked i bytes images came why
-  over_none : bytes ≡ [] → ComesOf catalog i (left_over asked []) [] came.wrote why came.outcome
+  over_none : bytes ≡ [] → ComesOf (header_of asked) catalog i (left_over asked []) [] came.wrote why came.outcome
       → RestartsOver catalog shape asked i bytes images came why
   over_book : (found : List ℕ) (live : Live) (bodies : List (List ℕ)) → bytes ≢ [] → images found
       → HasBodies (layout_by shape live) found bodies
-      → ComesOf catalog i (left_over (layout_by shape live) bodies) bodies came.wrote why came.outcome
+      → ComesOf (header_of (layout_by shape live)) catalog i (left_over (layout_by shape live) bodies) bodies
+      came.wrote why came.outcome
       → RestartsOver catalog shape asked i bytes images came why
   over_others : (found : List ℕ) → bytes ≢ [] → images found → IsUnloadable shape found why → came.outcome ≡ Refused
       → RestartsOver catalog shape asked i bytes images came why

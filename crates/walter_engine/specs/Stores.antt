@@ -1,7 +1,7 @@
 -- Where the records of a site lie.
-use Rattle.std.specs.Prelude.{◌≡◌, ◌<◌, ℕ, Bool, List, map, Option, Some, None, IsSome, if◌then◌else◌}
+use Rattle.std.specs.Prelude.{◌≡◌, ◌<◌, ℕ, Bool, List, Option, Some, None, IsSome, if◌then◌else◌}
 use Rattle.walter_disk.specs.declared.disk.Disk.{Ghosts}
-use Rattle.walter_engine.specs.Contents.{MayHaveRecords, AreSpelled}
+use Rattle.walter_engine.specs.Contents.{MayHaveRecords, AreSpelled, spelled}
 use Rattle.walter_checkpoint.specs.Areas.{Shape}
 use Rattle.walter_checkpoint.specs.Books.{disk_of, shape_of, left_of, StandsFor}
 use Rattle.walter_checkpoint.specs.declared.book.Book.{Book}
@@ -9,8 +9,8 @@ use Rattle.walter_checkpoint.specs.declared.book.Live.{Live}
 use Rattle.walter_checkpoint.specs.declared.book.Live.TheVariants.{Whole, A, B}
 use Rattle.walter_machine.specs.declared.machine.Machine.{Machine}
 use Rattle.walter_machine.specs.Machines.{HasStanding, catalog_in, is_up}
-use Rattle.walter_record.specs.Spelling.{record_spelled}
-use Rattle.walter_rules.specs.Layouts.{Layout, one_area, two_areas, left_behind}
+use Rattle.walter_base.specs.declared.format.Format.TheVariants.{First}
+use Rattle.walter_rules.specs.Layouts.{Layout, one_area, two_areas, header_of, left_behind}
 use Rattle.walter_rules.specs.Standing.{Standing}
 
 -- the disk, under a book or bare
@@ -28,9 +28,9 @@ disk_if up book = if up then None else Some (disk_of book)
 
 -- how a book is laid out
 abbrev pub layout_by : Shape → Live → Layout
-layout_by shape Whole = one_area shape.capacity
-layout_by shape A = two_areas shape.capacity shape.sites
-layout_by shape B = two_areas shape.capacity shape.sites
+layout_by shape Whole = one_area shape.capacity First
+layout_by shape A = two_areas shape.capacity shape.sites First
+layout_by shape B = two_areas shape.capacity shape.sites First
 
 abbrev pub layout_of : {D : Type 0} {g : Ghosts D} → Book D g → Layout
 layout_of book = layout_by (shape_of book) book.live
@@ -38,7 +38,7 @@ layout_of book = layout_by (shape_of book) book.live
 -- it is laid out so, and has the records of a site that stands so, which leave so many bytes
 pub record IsKept {D : Type 0} {g : Ghosts D} (layout : Layout) (S : Standing) (book : Book D g) : Type 0 where
   pub laid : layout_of book ≡ layout
-  pub stands : StandsFor book (map record_spelled S.records)
+  pub stands : StandsFor book (spelled (header_of layout) S.records)
   pub left : left_of book ≡ left_behind layout S
 
 -- the disk of a site that is down tells what it holds, and each crash leaves the site's records
@@ -57,5 +57,5 @@ IsStored layout S None None = ⊥
 -- up, or on the disk under it of one that is down
 pub record IsLeft {D : Type 0} {g : Ghosts D} (layout : Layout) (m : Machine) (S : Standing) (book : Book D g) : Type 0 where
   pub machine : HasStanding m S
-  pub spelled : AreSpelled (catalog_in m).sites S
+  pub spellings : AreSpelled (header_of layout) (catalog_in m).sites S
   pub stored : IsStored layout S (book_if (is_up m) book) (disk_if (is_up m) book)
