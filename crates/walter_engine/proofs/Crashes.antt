@@ -1,14 +1,15 @@
 -- What a crash within an event leaves.
-use Rattle.std.proofs.Common.{◌≡◌, ℕ, List, [], ◌∷◌, ◌++◌, ◌⊎◌, map, false, Option, Some, None, sym, subst, inl, inr, arith}
+use Rattle.std.proofs.Common.{◌≡◌, ℕ, List, [], ◌∷◌, ◌++◌, ◌⊎◌, false, Option, Some, None, sym, subst, inl, inr, arith}
 use Rattle.std.specs.Prelude.{IfSome, is_some}
-use Rattle.std.proofs.lemmas.List.{map-append}
 use Rattle.walter_base.specs.declared.catalog.Catalog.{Catalog}
+use Rattle.walter_base.specs.declared.format.Format.{Format}
 use Rattle.walter_base.specs.declared.message.Record.{Record}
 use Rattle.walter_base.specs.declared.names.SiteId.{SiteId}
 use Rattle.walter_disk.proofs.Moments.{weaker}
 use Rattle.walter_disk.specs.declared.disk.Disk.{Ghosts}
 use Rattle.walter_disk.specs.Images.{LeavesOnly}
-use Rattle.walter_engine.specs.Contents.{HasBodies, MayHaveRecords, HasOneMore, MayHaveNext}
+use Rattle.walter_engine.proofs.Spelled.{spelled-push}
+use Rattle.walter_engine.specs.Contents.{spelled, HasBodies, MayHaveRecords, HasOneMore, MayHaveNext}
 use Rattle.walter_engine.specs.Stores.{IsKept, IsStored, disk_under, layout_of}
 use Rattle.walter_engine.specs.Writings.{IsSameButRoom}
 use Rattle.walter_engine.proofs.Resting.{OnlyNow, may_have, leaves_bodies, before_laid}
@@ -16,21 +17,22 @@ use Rattle.walter_checkpoint.specs.Books.{disk_of, shape_of, IsLaidBeforeOrBehin
 use Rattle.walter_checkpoint.specs.declared.book.Book.{Book}
 use Rattle.walter_record.specs.Spelling.{record_spelled}
 use Rattle.walter_rules.specs.declared.event.Event.{Event}
-use Rattle.walter_rules.specs.Layouts.{Layout}
+use Rattle.walter_rules.specs.Layouts.{Layout, header_of, format_at}
 use Rattle.walter_rules.specs.Rule.{rule}
 use Rattle.walter_rules.specs.Standing.{Standing, settled}
 use Rattle.walter_rules.specs.Trails.{IsFound}
 
 -- the records from before, or with the one that the rule brings behind them
 behind_next : (catalog : Catalog) (layout : Layout) (i : SiteId) (S : Standing) (event : Event) (rec : Record)
-    → (rule catalog i S event).wrote ≡ Some rec → (image : List ℕ)
-    → HasBodies layout image (map record_spelled S.records)
-    ⊎ HasBodies layout image (map record_spelled S.records ++ record_spelled rec ∷ [])
+    → (rule (header_of layout) catalog i S event).wrote ≡ Some rec → (image : List ℕ)
+    → HasBodies layout image (spelled (header_of layout) S.records)
+    ⊎ HasBodies layout image
+    (spelled (header_of layout) S.records ++ record_spelled (format_at (header_of layout) S.records) rec ∷ [])
     → MayHaveNext catalog layout i S event None image
 behind_next catalog layout i S event rec brings image (inl before) = inl (may_have layout S.records S.flight image before)
 behind_next catalog layout i S event rec brings image (inr behind) =
     inr (subst (λ (w : Option Record). HasOneMore layout S.records w image) (sym brings)
-    (subst (λ bodies. HasBodies layout image bodies) (sym (map-append record_spelled S.records (rec ∷ []))) behind))
+    (subst (λ bodies. HasBodies layout image bodies) (sym (spelled-push (header_of layout) S.records rec)) behind))
 
 -- what a restart leaves that has found the one in flight or hasn't
 pub settled_next : (catalog : Catalog) (layout : Layout) (i : SiteId) (S : Standing) (event : Event) (kept : Option Record)
@@ -57,9 +59,9 @@ module _ {D : Type 0} {g : Ghosts D} where
       (event : Event) (kept : Option Record) → IsKept layout S book
       → LeavesOnly g.moment g.left_since (disk_of book) (disk_of book) (MayHaveNext catalog layout i S event kept)
   unmoved_next only_now book catalog layout i S event kept stands =
-      unmoved only_now book (map record_spelled S.records) stands.stands (MayHaveNext catalog layout i S event kept)
+      unmoved only_now book (spelled (header_of layout) S.records) stands.stands (MayHaveNext catalog layout i S event kept)
       (λ image has. inl (may_have layout S.records S.flight image
-      (subst (λ (l : Layout). HasBodies l image (map record_spelled S.records)) stands.laid has)))
+      (subst (λ (l : Layout). HasBodies l image (spelled (header_of layout) S.records)) stands.laid has)))
 
   -- or the bare disk
   pub disk_next : OnlyNow g → (catalog : Catalog) (layout : Layout) (i : SiteId) (S : Standing) (event : Event)
@@ -85,41 +87,44 @@ module _ {D : Type 0} {g : Ghosts D} where
         (λ image left. so image (leaves_bodies g old bodies stands image left)) same.book.any_moment
 
   module _ (catalog : Catalog) (layout : Layout) (i : SiteId) (S : Standing) (event : Event) (old : Book D g)
-      (laid : layout_of old ≡ layout) (stands : StandsFor old (map record_spelled S.records)) where
+      (laid : layout_of old ≡ layout) (stands : StandsFor old (spelled (header_of layout) S.records)) where
     abbrev Next : List ℕ → Type 0
     Next = MayHaveNext catalog layout i S event None
 
-    stays : (image : List ℕ) → HasBodies (layout_of old) image (map record_spelled S.records) → Next image
+    stays : (image : List ℕ) → HasBodies (layout_of old) image (spelled (header_of layout) S.records) → Next image
     stays image has =
         inl (may_have layout S.records S.flight image
-        (subst (λ (l : Layout). HasBodies l image (map record_spelled S.records)) laid has))
+        (subst (λ (l : Layout). HasBodies l image (spelled (header_of layout) S.records)) laid has))
 
     -- where room was made
     pub stays_next : (mid : Book D g) → IsSameButRoom old mid
         → LeavesOnly g.moment g.left_since (disk_of old) (disk_of mid) Next
-    stays_next mid same = made_room old mid same (map record_spelled S.records) stands Next stays
+    stays_next mid same = made_room old mid same (spelled (header_of layout) S.records) stands Next stays
 
     -- where what it has was packed, or wasn't
     pub packs_next : (new : D)
         → LeavesOnly g.moment g.left_since (disk_of old) new
-        (λ image. HasBodies (layout_of old) image (map record_spelled S.records))
+        (λ image. HasBodies (layout_of old) image (spelled (header_of layout) S.records))
         → LeavesOnly g.moment g.left_since (disk_of old) new Next
     packs_next new run =
         weaker g.moment g.left_since (disk_of old) new
-        (λ image. HasBodies (layout_of old) image (map record_spelled S.records)) Next stays run
+        (λ image. HasBodies (layout_of old) image (spelled (header_of layout) S.records)) Next stays run
+
+    abbrev there : Format
+    there = format_at (header_of layout) S.records
 
     -- where a record was appended, or wasn't
-    pub appends_next : (new : D) (rec : Record) (body : List ℕ) → (rule catalog i S event).wrote ≡ Some rec
-        → body ≡ record_spelled rec
+    pub appends_next : (new : D) (rec : Record) (body : List ℕ) → (rule (header_of layout) catalog i S event).wrote ≡ Some rec
+        → body ≡ record_spelled there rec
         → LeavesOnly g.moment g.left_since (disk_of old) new
-        (IsLaidBeforeOrBehind old.live (shape_of old) (map record_spelled S.records) body)
+        (IsLaidBeforeOrBehind old.live (shape_of old) (spelled (header_of layout) S.records) body)
         → LeavesOnly g.moment g.left_since (disk_of old) new Next
     appends_next new rec body brings is run =
+        let bodies = spelled (header_of layout) S.records in
         weaker g.moment g.left_since (disk_of old) new
-        (IsLaidBeforeOrBehind old.live (shape_of old) (map record_spelled S.records) (record_spelled rec)) Next
+        (IsLaidBeforeOrBehind old.live (shape_of old) bodies (record_spelled there rec)) Next
         (λ image may. behind_next catalog layout i S event rec brings image
-        (subst (λ (l : Layout). HasBodies l image (map record_spelled S.records)
-        ⊎ HasBodies l image (map record_spelled S.records ++ record_spelled rec ∷ [])) laid
-        (before_laid (shape_of old) old.live (map record_spelled S.records) (record_spelled rec) image may)))
+        (subst (λ (l : Layout). HasBodies l image bodies ⊎ HasBodies l image (bodies ++ record_spelled there rec ∷ [])) laid
+        (before_laid (shape_of old) old.live bodies (record_spelled there rec) image may)))
         (subst (λ (b : List ℕ). LeavesOnly g.moment g.left_since (disk_of old) new
-        (IsLaidBeforeOrBehind old.live (shape_of old) (map record_spelled S.records) b)) is run)
+        (IsLaidBeforeOrBehind old.live (shape_of old) bodies b)) is run)

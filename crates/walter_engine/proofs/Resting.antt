@@ -1,7 +1,6 @@
 -- A disk that rests: what each crash leaves of it, with the records of its site.
-use Rattle.std.proofs.Common.{◌≡◌, ℕ, ◌<◌, ◌≤◌, List, [], ◌∷◌, ◌++◌, ◌⊎◌, length, map, Bool, true, false, Option, Some, None, refl, ap, sym, ◌∙◌, subst, inl, inr, ⊎_elim, arith}
+use Rattle.std.proofs.Common.{◌≡◌, ℕ, ◌<◌, ◌≤◌, List, [], ◌∷◌, ◌++◌, ◌⊎◌, length, Bool, true, false, Option, Some, None, refl, ap, sym, ◌∙◌, subst, inl, inr, ⊎_elim, arith}
 use Rattle.std.specs.Prelude.{IfSome, IsSome, is_some, not}
-use Rattle.std.proofs.lemmas.List.{map-append}
 use Rattle.walter_base.specs.declared.message.Record.{Record}
 use Rattle.walter_disk.specs.declared.disk.Disk.{Ghosts}
 use Rattle.walter_disk.specs.Images.{IsImage, LeavesOnly}
@@ -14,9 +13,10 @@ use Rattle.walter_checkpoint.proofs.Adding.{leaves_laid, reads_laid}
 use Rattle.walter_disk.specs.Disks.{Fails}
 use Rattle.walter_journal.specs.Steps.{IsLeft}
 use Rattle.walter_record.specs.Spelling.{record_spelled}
-use Rattle.walter_rules.specs.Layouts.{Layout, one_area, two_areas, left_behind}
+use Rattle.walter_rules.specs.Layouts.{Layout, one_area, two_areas, header_of, format_at, left_behind}
 use Rattle.walter_rules.specs.Standing.{Standing}
-use Rattle.walter_engine.specs.Contents.{HasBodies, HasRecords, MayHaveRecords}
+use Rattle.walter_engine.proofs.Spelled.{spelled-push}
+use Rattle.walter_engine.specs.Contents.{HasBodies, HasRecords, MayHaveRecords, spelled}
 use Rattle.walter_engine.specs.Stores.{book_if, disk_if, disk_under, layout_by, layout_of, IsOnDisk, IsStored}
 
 -- whatever is in flight, the records alone may be there
@@ -40,18 +40,19 @@ before_laid shape live bodies body image (inr behind) = inr (laid_bodies shape l
 
 -- the bodies before one was appended, or with it
 pub before_or_behind : (layout : Layout) (records : List Record) (rec : Record) (image : List ℕ)
-    → HasBodies layout image (map record_spelled records)
-    ⊎ HasBodies layout image (map record_spelled records ++ record_spelled rec ∷ [])
+    → HasBodies layout image (spelled (header_of layout) records)
+    ⊎ HasBodies layout image
+    (spelled (header_of layout) records ++ record_spelled (format_at (header_of layout) records) rec ∷ [])
     → MayHaveRecords layout records (Some rec) image
 before_or_behind layout records rec image (inl before) = inl before
 before_or_behind layout records rec image (inr behind) =
-    inr (subst (λ bodies. HasBodies layout image bodies) (sym (map-append record_spelled records (rec ∷ []))) behind)
+    inr (subst (λ bodies. HasBodies layout image bodies) (sym (spelled-push (header_of layout) records rec)) behind)
 
 -- a book has bytes
 content_begun : (layout : Layout) (bytes : List ℕ) (bodies : List (List ℕ)) → HasBodies layout bytes bodies
     → 0 < length bytes
-content_begun (one_area capacity) bytes bodies content = omega (arith, ap length content.is)
-content_begun (two_areas capacity sites) bytes bodies content = omega (arith, ap length content.is)
+content_begun (one_area capacity header) bytes bodies content = omega (arith, ap length content.is)
+content_begun (two_areas capacity sites header) bytes bodies content = omega (arith, ap length content.is)
 
 pub may_have_begun : (layout : Layout) (records : List Record) (flight : Option Record) (image : List ℕ)
     → MayHaveRecords layout records flight image → 0 < length image
@@ -98,8 +99,9 @@ module _ {D : Type 0} (g : Ghosts D) where
 
   -- the disk under a book that stands for the records
   on_disk : SizeIs → (layout : Layout) (S : Standing) (book : Book D g) → layout_of book ≡ layout
-      → StandsFor book (map record_spelled S.records) → IsOnDisk g layout S (disk_of book)
-  on_disk size_is layout S book laid stands =
+      → StandsFor book (spelled (header_of layout) S.records) → IsOnDisk g layout S (disk_of book)
+  on_disk size_is layout S book laid are_there =
+      let stands = subst (λ (l : Layout). StandsFor book (spelled (header_of l) S.records)) (sym laid) are_there in
       subst (λ (l : Layout). IsOnDisk g l S (disk_of book)) laid (record {
         told = ap is_some stands.with.stands.told;
         begun = omega (
@@ -109,21 +111,22 @@ module _ {D : Type 0} (g : Ghosts D) where
         );
         images = λ image left.
             may_have (layout_of book) S.records S.flight image
-            (leaves_bodies book (map record_spelled S.records) stands image left);
+            (leaves_bodies book (spelled (header_of (layout_of book)) S.records) stands image left);
       })
 
   -- the records lie in the book of a site that is up, or on the disk under it of one that is down
   pub stored : SizeIs → (layout : Layout) (S : Standing) (book : Book D g) (up : Bool) → layout_of book ≡ layout
-      → StandsFor book (map record_spelled S.records) → (up ≡ true → left_of book ≡ left_behind layout S)
+      → StandsFor book (spelled (header_of layout) S.records) → (up ≡ true → left_of book ≡ left_behind layout S)
       → IsStored {g = g} layout S (book_if up book) (disk_if up book)
   stored size_is layout S book true laid stands left = record { laid = laid; stands = stands; left = left refl }
   stored size_is layout S book false laid stands left = on_disk size_is layout S book laid stands
 
   -- a record whose append failed is in flight
   pub stored_failed : SizeIs → CountsNow → (records : List Record) (rec : Record) (T : Standing) (old new : Book D g)
-      → StandsFor old (map record_spelled records) → Fails (g.known (disk_of old)) (g.known (disk_of new))
+      → StandsFor old (spelled (header_of (layout_of old)) records) → Fails (g.known (disk_of old)) (g.known (disk_of new))
       → LeavesOnly g.moment g.left_since (disk_of old) (disk_of new)
-      (IsLaidBeforeOrBehind old.live (shape_of old) (map record_spelled records) (record_spelled rec))
+      (IsLaidBeforeOrBehind old.live (shape_of old) (spelled (header_of (layout_of old)) records)
+      (record_spelled (format_at (header_of (layout_of old)) records) rec))
       → T.records ≡ records → T.flight ≡ Some rec → IsOnDisk g (layout_of old) T (disk_of new)
   stored_failed size_is counts_now records rec T old new stands fails run same flight = record {
     told = fails.tells ∙ ap is_some stands.with.stands.told;
@@ -135,7 +138,8 @@ module _ {D : Type 0} (g : Ghosts D) where
     );
     images = λ image left.
         let has = before_or_behind (layout_of old) records rec image
-        (before_laid (shape_of old) old.live (map record_spelled records) (record_spelled rec) image
+        (before_laid (shape_of old) old.live (spelled (header_of (layout_of old)) records)
+        (record_spelled (format_at (header_of (layout_of old)) records) rec) image
         (left_now counts_now (disk_of old) (disk_of new) _ run image left)) in
         subst (λ rs. MayHaveRecords (layout_of old) rs T.flight image) (sym same)
         (subst (λ flight. MayHaveRecords (layout_of old) records flight image) (sym flight) has);
@@ -143,9 +147,9 @@ module _ {D : Type 0} (g : Ghosts D) where
 
   -- a pack that failed leaves what was there
   pub stored_unpacked : SizeIs → CountsNow → (T : Standing) (old new : Book D g)
-      → StandsFor old (map record_spelled T.records) → Fails (g.known (disk_of old)) (g.known (disk_of new))
+      → StandsFor old (spelled (header_of (layout_of old)) T.records) → Fails (g.known (disk_of old)) (g.known (disk_of new))
       → LeavesOnly g.moment g.left_since (disk_of old) (disk_of new)
-      (λ image. HasBodies (layout_of old) image (map record_spelled T.records))
+      (λ image. HasBodies (layout_of old) image (spelled (header_of (layout_of old)) T.records))
       → IsOnDisk g (layout_of old) T (disk_of new)
   stored_unpacked size_is counts_now T old new stands fails run = record {
     told = fails.tells ∙ ap is_some stands.with.stands.told;

@@ -1,13 +1,13 @@
 -- What the write of a record leaves, and what comes of it.
-use Rattle.std.proofs.Common.{◌≡◌, ℕ, ◌-◌, ◌<◌, ◌≤◌, List, [], ◌∷◌, ◌++◌, map, Bool, true, false, Option, Some, None, Result, Err, refl, ap, sym, ◌∙◌, subst, inl, inr, arith}
+use Rattle.std.proofs.Common.{◌≡◌, ℕ, ◌-◌, ◌<◌, ◌≤◌, List, [], ◌∷◌, ◌++◌, Bool, true, false, Option, Some, None, Result, Err, refl, ap, sym, ◌∙◌, subst, inl, inr, arith}
 use Rattle.std.specs.Prelude.{IfSome, IsSome, OnErr, is_some}
 use Rattle.std.proofs.lemmas.Bool.{cases_lt}
-use Rattle.std.proofs.lemmas.List.{map-append}
 use Rattle.walter_base.specs.declared.catalog.Catalog.{Catalog}
+use Rattle.walter_base.specs.declared.format.Format.{Format}
 use Rattle.walter_base.specs.declared.message.Record.{Record}
 use Rattle.walter_base.specs.declared.message.Record.TheVariants.{Boot}
 use Rattle.walter_base.specs.declared.names.SiteId.{SiteId}
-use Rattle.walter_base.specs.Sizes.{CanBeRecorded}
+use Rattle.walter_base.specs.Sizes.{CanBeRecorded, most_in}
 use Rattle.walter_engine.specs.Effects.{AreCalls, AreCallsFor}
 use Rattle.walter_checkpoint.proofs.Adding.{stands_more}
 use Rattle.walter_checkpoint.specs.Books.{disk_of, shape_of, left_of, IsLaidBeforeOrBehind, StandsFor, Appends}
@@ -15,21 +15,21 @@ use Rattle.walter_checkpoint.specs.declared.book.Book.{Book}
 use Rattle.walter_disk.specs.declared.disk.Disk.{Ghosts}
 use Rattle.walter_disk.specs.Disks.{Fails}
 use Rattle.walter_disk.specs.Images.{LeavesOnly}
-use Rattle.walter_engine.specs.Contents.{AreSpelled, HasBodies}
+use Rattle.walter_engine.specs.Contents.{AreSpelled, HasBodies, spelled}
 use Rattle.walter_engine.specs.Stores.{book_if, disk_if, layout_by, layout_of, IsKept, IsOnDisk, IsStored, IsLeft}
-use Rattle.walter_engine.specs.Writings.{IsSameButRoom, IsSpelling, IsSpellingIfAny, IsOutcomeOf}
+use Rattle.walter_engine.specs.Writings.{IsSameButRoom, IsSpelling, IsSpellingIfAny, IsOutcomeOf, IsFormatAt}
 use Rattle.walter_engine.proofs.Bodies.{some_is}
 use Rattle.walter_engine.proofs.Resting.{SizeIs, CountsNow, stored, stored_failed, stored_unpacked}
 use Rattle.walter_engine.proofs.Left.{AnyPlain, AnyBoot, IsPlain, IsBoot, brings_plain, brings_boot, stays_down, left_more, left_same}
-use Rattle.walter_engine.proofs.Room.{need_is}
-use Rattle.walter_engine.proofs.Spelled.{spelled_among, spelled_after}
+use Rattle.walter_engine.proofs.Room.{need_is, fits_format}
+use Rattle.walter_engine.proofs.Spelled.{Behind, spelled-push, spelled_among, spelled_after, told_format}
 use Rattle.walter_journal.specs.declared.fault.AppendFault.{AppendFault}
 use Rattle.walter_journal.specs.declared.fault.AppendFault.TheVariants as append
 use Rattle.walter_journal.specs.Journals.{need_of as body_need}
 use Rattle.walter_machine.specs.declared.machine.Machine.{Machine}
 use Rattle.walter_machine.proofs.Sizes.{none_sent}
 use Rattle.walter_machine.specs.Comings.{is_faulty, IsFaulty, RisesIf, IsSized}
-use Rattle.walter_machine.specs.States.{CanBeNext, IsState}
+use Rattle.walter_machine.specs.States.{AreTold, CanBeNext, IsState}
 use Rattle.walter_machine.specs.Readiness.{rec_in, IsReadyFor, IsReadyAnyway}
 use Rattle.walter_machine.specs.declared.ready.Ready.{Ready}
 use Rattle.walter_machine.specs.Machines.{catalog_in, tables_in, is_up, HasStanding}
@@ -42,7 +42,7 @@ use Rattle.walter_rules.specs.declared.outcome.Outcome.{Outcome}
 use Rattle.walter_rules.specs.declared.outcome.Outcome.TheVariants.{Refused, Taken}
 use Rattle.walter_rules.specs.Allowed.{IsKind, boots}
 use Rattle.walter_rules.specs.Calls.{Expected}
-use Rattle.walter_rules.specs.Layouts.{Layout, need_of, left_behind, FitsIn}
+use Rattle.walter_rules.specs.Layouts.{Layout, header_of, format_at, need_of, need_in, left_behind, FitsIn}
 use Rattle.walter_rules.specs.Rule.{rule}
 use Rattle.walter_rules.proofs.RulesAllowed.{rule_allowed}
 use Rattle.walter_rules.specs.Standing.{Standing, records_after, flight_after, stands_after, up_after}
@@ -51,24 +51,24 @@ use Rattle.walter_site.specs.Members.{IsShortOutcome}
 use Rattle.walter_tables.specs.declared.tables.Tables.{Tables}
 
 -- the spelling of the record, where there is one
-pub spelling_some : {D : Type 0} {g : Ghosts D} (book : Book D g) (rec : Option Record) (body : Option (List ℕ))
-    (b : List ℕ) → IsSpellingIfAny book rec body → body ≡ Some b
-    → (r : Record) × (rec ≡ Some r) × IsSpelling book r b
-spelling_some {D} {g} book rec body b all is =
-    at rec (subst (λ (o : Option (List ℕ)). IsSpellingIfAny {g = g} book rec o) is all)
+pub spelling_some : {D : Type 0} {g : Ghosts D} (format : Format) (book : Book D g) (rec : Option Record)
+    (body : Option (List ℕ)) (b : List ℕ) → IsSpellingIfAny format book rec body → body ≡ Some b
+    → (r : Record) × (rec ≡ Some r) × IsSpelling format book r b
+spelling_some {D} {g} format book rec body b all is =
+    at rec (subst (λ (o : Option (List ℕ)). IsSpellingIfAny {g = g} format book rec o) is all)
   where
-    at : (o : Option Record) → IsSpellingIfAny {g = g} book o (Some b)
-        → (r : Record) × (o ≡ Some r) × IsSpelling {g = g} book r b
+    at : (o : Option Record) → IsSpellingIfAny {g = g} format book o (Some b)
+        → (r : Record) × (o ≡ Some r) × IsSpelling {g = g} format book r b
     at None a = absurd a
     at (Some r) a = (r, refl, a)
 
 -- where there is none, there is no record
-pub spelling_none : {D : Type 0} {g : Ghosts D} (book : Book D g) (rec : Option Record) (body : Option (List ℕ))
-    → IsSpellingIfAny book rec body → body ≡ None → rec ≡ None
-spelling_none {D} {g} book rec body all is =
-    at rec (subst (λ (o : Option (List ℕ)). IsSpellingIfAny {g = g} book rec o) is all)
+pub spelling_none : {D : Type 0} {g : Ghosts D} (format : Format) (book : Book D g) (rec : Option Record)
+    (body : Option (List ℕ)) → IsSpellingIfAny format book rec body → body ≡ None → rec ≡ None
+spelling_none {D} {g} format book rec body all is =
+    at rec (subst (λ (o : Option (List ℕ)). IsSpellingIfAny {g = g} format book rec o) is all)
   where
-    at : (o : Option Record) → IsSpellingIfAny {g = g} book o None → o ≡ None
+    at : (o : Option Record) → IsSpellingIfAny {g = g} format book o None → o ≡ None
     at None a = refl
     at (Some r) a = absurd a
 
@@ -122,11 +122,11 @@ kind_allowed catalog i S event wrote outcome (boots down) = refl
 kind_allowed catalog i S event wrote outcome kind = refl
 
 -- no rule refuses a restart
-pub rule_allows : (catalog : Catalog) (i : SiteId) (S : Standing) (event : Event)
-    → is_refusal (rule catalog i S event).outcome ≡ false
-rule_allows catalog i S event =
-    kind_allowed catalog i S event (rule catalog i S event).wrote (rule catalog i S event).outcome
-    (rule_allowed catalog i S event).0.kind
+pub rule_allows : (header : Format) (catalog : Catalog) (i : SiteId) (S : Standing) (event : Event)
+    → is_refusal (rule header catalog i S event).outcome ≡ false
+rule_allows header catalog i S event =
+    kind_allowed catalog i S event (rule header catalog i S event).wrote (rule header catalog i S event).outcome
+    (rule_allowed header catalog i S event).0.kind
 
 pub failure_is : (event : Event) (rec : Record)
     → (is_faulty (failure event rec) ≡ true) × (is_refusal (failure event rec) ≡ false)
@@ -146,15 +146,15 @@ fullness_is (Given (Call client call)) need left = (refl, refl, tt, λ up. refl,
 fullness_is event need left = (refl, refl, tt, λ up. refl, refl)
 
 -- only a restart that reads its journal is refused
-pub unrefused : (catalog : Catalog) (i : SiteId) (site : Option Tables) (event : Event) (ready : Ready) (left : ℕ)
-    (outcome : Outcome) → IsReadyAnyway catalog i site event ready → IsOutcomeOf event ready left outcome
-    → is_refusal outcome ≡ false
-unrefused catalog i site event ready left outcome anyway (inl is) =
-    ap is_refusal (is ∙ ap (λ (e : Expected). e.outcome) anyway.ready_for.rule) ∙ rule_allows catalog i anyway.S event
-unrefused catalog i site event ready left outcome anyway (inr (inl is)) = ap is_refusal is ∙ (want_is event).1
-unrefused catalog i site event ready left outcome anyway (inr (inr (inl is))) =
+pub unrefused : (format : Format) (catalog : Catalog) (i : SiteId) (site : Option Tables) (event : Event) (ready : Ready)
+    (left : ℕ) (outcome : Outcome) → IsReadyAnyway catalog i site event ready
+    → IsOutcomeOf format event ready left outcome → is_refusal outcome ≡ false
+unrefused format catalog i site event ready left outcome anyway (inl is) =
+    ap is_refusal (is ∙ ap (λ (e : Expected). e.outcome) anyway.ready_for.rule) ∙ rule_allows anyway.header catalog i anyway.S event
+unrefused format catalog i site event ready left outcome anyway (inr (inl is)) = ap is_refusal is ∙ (want_is event).1
+unrefused format catalog i site event ready left outcome anyway (inr (inr (inl is))) =
     ap is_refusal is.1 ∙ (failure_is event is.0).1
-unrefused catalog i site event ready left outcome anyway (inr (inr (inr is))) =
+unrefused format catalog i site event ready left outcome anyway (inr (inr (inr is))) =
     ap is_refusal is.outcome_is ∙ (fullness_is event is.need is.free).1
 
 -- ---- the parts of what came
@@ -195,33 +195,38 @@ sized_flying sites event rec can =
     record { outcome = (failure_is event rec).2; kept = tt; wrote = tt; flight = can; sends = none_sent sites }
 
 -- the record of what is ready
-module _ (catalog : Catalog) (i : SiteId) (site : Option Tables) (S : Standing) (event : Event) (ready : Ready)
-    (ready_for : IsReadyFor catalog i site S event ready) (rec : Record) (is : rec_in ready ≡ Some rec) where
-  pub brings : (rule catalog i S event).wrote ≡ Some rec
+module _ (catalog : Catalog) (layout : Layout) (i : SiteId) (site : Option Tables) (S : Standing) (event : Event)
+    (ready : Ready) (ready_for : IsReadyFor (header_of layout) catalog i site S event ready) (rec : Record)
+    (is : rec_in ready ≡ Some rec) where
+  pub brings : (rule (header_of layout) catalog i S event).wrote ≡ Some rec
   brings = sym (ap (λ (e : Expected). e.wrote) ready_for.rule) ∙ is
 
-  pub has : AreInRange rec → HasRecordSpelling catalog.sites rec
-  has ranges = spelled_among catalog.sites rec (some_is (CanBeNext catalog i S) (rec_in ready) rec is ready_for.next).sizes ranges
+  pub has : (format : Format) → catalog.sites ≤ most_in format → AreInRange rec
+      → HasRecordSpelling format catalog.sites rec
+  has format fits ranges =
+      spelled_among format catalog.sites rec fits
+      (some_is (CanBeNext catalog i S) (rec_in ready) rec is ready_for.next).sizes ranges
 
-  -- it finds its place in the book
-  pub fits_here : {D : Type 0} {g : Ghosts D} (layout : Layout) (book : Book D g) → IsKept layout S book
-      → CanBeRecorded rec → (body : List ℕ) → body ≡ record_spelled rec → body_need body ≤ left_of book
-      → IfSome (rec_in ready) (FitsIn layout S)
-  fits_here layout book kept can body body_is enough =
-      holds_some (FitsIn layout S) (rec_in ready) rec is
-      (omega (arith, enough, ap body_need body_is, need_is rec can, kept.left))
+  module _ {D : Type 0} {g : Ghosts D} (format : Format) (told : AreTold catalog i S)
+      (at : IsFormatAt format layout S) (book : Book D g) (kept : IsKept {g = g} layout S book) (body : List ℕ)
+      (body_is : body ≡ record_spelled format rec) (has_spelling : HasRecordSpelling format catalog.sites rec) where
+    -- what it needs is what its spelling needs
+    needs_here : body_need body ≡ need_in layout S rec
+    needs_here =
+        ap body_need body_is ∙ need_is format rec (fits_format format catalog.sites rec has_spelling)
+        ∙ ap (λ (f : Format). need_of f rec) (at ∙ sym (told_format (header_of layout) catalog i S told))
 
-  -- or it doesn't
-  pub lacks_here : {D : Type 0} {g : Ghosts D} (layout : Layout) (book : Book D g) (need left : ℕ)
-      → IsKept layout S book → CanBeRecorded rec → (body : List ℕ) → body ≡ record_spelled rec
-      → left_of book < body_need body → need ≡ body_need body → left ≡ left_of book
-      → IfSome (rec_in ready) (λ rec. (need ≡ need_of rec) × (left ≡ left_behind layout S) × (left < need))
-  lacks_here layout book need left kept can body body_is less is_need is_left =
-      holds_some (λ rec. (need ≡ need_of rec) × (left ≡ left_behind layout S) × (left < need)) (rec_in ready) rec is (
-        is_need ∙ ap body_need body_is ∙ need_is rec can,
-        is_left ∙ kept.left,
-        omega (arith, less, is_need, is_left),
-      )
+    -- it finds its place in the book
+    pub fits_here : body_need body ≤ left_of book → IfSome (rec_in ready) (FitsIn layout S)
+    fits_here enough =
+        holds_some (FitsIn layout S) (rec_in ready) rec is (omega (arith, enough, needs_here, kept.left))
+
+    -- or it doesn't
+    pub lacks_here : (need left : ℕ) → left_of book < body_need body → need ≡ body_need body → left ≡ left_of book
+        → IfSome (rec_in ready) (λ rec. (need ≡ need_in layout S rec) × (left ≡ left_behind layout S) × (left < need))
+    lacks_here need left less is_need is_left =
+        holds_some (λ rec. (need ≡ need_in layout S rec) × (left ≡ left_behind layout S) × (left < need))
+        (rec_in ready) rec is (is_need ∙ needs_here, is_left ∙ kept.left, omega (arith, less, is_need, is_left))
 
 -- the site is up just where it has its tables
 pub state_up : (S : Standing) (site : Option Tables) → IsState S site → S.up ≡ is_some site
@@ -247,33 +252,43 @@ same_kept layout S old new same kept = record {
 -- ---- what it leaves
 
 module _ {D : Type 0} {g : Ghosts D} (size_is : SizeIs g) (catalog : Catalog) (layout : Layout) (i : SiteId)
-    (S : Standing) (event : Event) (spelled : AreSpelled catalog.sites S) (m : Machine)
+    (S : Standing) (event : Event) (spellings : AreSpelled (header_of layout) catalog.sites S) (m : Machine)
     (catalog_is : catalog_in m ≡ catalog) (came : Came) (standing : HasStanding m (stands_after catalog i S event came))
     (new : Book D g) where
   abbrev T : Standing
   T = stands_after catalog i S event came
 
-  abbrev Has : Record → Type 0
-  Has = HasRecordSpelling catalog.sites
+  abbrev header : Format
+  header = header_of layout
 
-  spelled_here : IfSome came.wrote Has → IfSome came.flight Has → AreSpelled (catalog_in m).sites T
+  -- has a spelling behind the records
+  abbrev Has : Record → Type 0
+  Has = Behind header catalog.sites S.records None
+
+  spelled_here : IfSome came.wrote Has → IfSome came.flight (Behind header catalog.sites S.records came.wrote)
+      → AreSpelled header (catalog_in m).sites T
   spelled_here wrote flight =
-      subst (λ (c : Catalog). AreSpelled c.sites T) (sym catalog_is)
-      (spelled_after catalog.sites catalog i S event came spelled wrote flight)
+      subst (λ (c : Catalog). AreSpelled header c.sites T) (sym catalog_is)
+      (spelled_after header catalog.sites catalog i S event came spellings wrote flight)
+
+  -- where nothing is in flight
+  lands_here : came.flight ≡ None → IfSome came.wrote Has → AreSpelled header (catalog_in m).sites T
+  lands_here flight wrote =
+      spelled_here wrote
+      (subst (λ (f : Option Record). IfSome f (Behind header catalog.sites S.records came.wrote)) (sym flight) tt)
 
   up_here : T.up ≡ is_up m
   up_here = state_up T (tables_in m) standing.state
 
   -- no record was written
-  pub leaves_same : layout_of new ≡ layout → StandsFor new (map record_spelled S.records)
+  pub leaves_same : layout_of new ≡ layout → StandsFor new (spelled header S.records)
       → (T.up ≡ true → left_of new ≡ left_behind layout T) → came.wrote ≡ None → came.flight ≡ None
       → IsLeft {g = g} layout m T new
   leaves_same laid stands left wrote flight = record {
     machine = standing;
-    spelled = spelled_here (subst (λ (w : Option Record). IfSome w Has) (sym wrote) tt)
-        (subst (λ (f : Option Record). IfSome f Has) (sym flight) tt);
+    spellings = lands_here flight (subst (λ (w : Option Record). IfSome w Has) (sym wrote) tt);
     stored = stored g size_is layout T new (is_up m) laid
-        (subst (λ (w : Option Record). StandsFor new (map record_spelled (records_after w S.records))) (sym wrote) stands)
+        (subst (λ (w : Option Record). StandsFor new (spelled header (records_after w S.records))) (sym wrote) stands)
         (λ up. left (up_here ∙ up));
   }
 
@@ -287,67 +302,81 @@ module _ {D : Type 0} {g : Ghosts D} (size_is : SizeIs g) (catalog : Catalog) (l
 
   -- the disk met a fault before that
   pub leaves_unpacked : CountsNow g → (old : Book D g) → layout_of old ≡ layout
-      → StandsFor old (map record_spelled S.records) → Fails (g.known (disk_of old)) (g.known (disk_of new))
+      → StandsFor old (spelled header S.records) → Fails (g.known (disk_of old)) (g.known (disk_of new))
       → LeavesOnly g.moment g.left_since (disk_of old) (disk_of new)
-      (λ image. HasBodies (layout_of old) image (map record_spelled S.records)) → tables_in m ≡ None
+      (λ image. HasBodies (layout_of old) image (spelled header S.records)) → tables_in m ≡ None
       → came.wrote ≡ None → came.flight ≡ None → IsLeft {g = g} layout m T new
   leaves_unpacked counts_now old laid stands fails run down wrote flight =
       let same : T.records ≡ S.records = ap (λ (w : Option Record). records_after w S.records) wrote in
+      let there : spelled header S.records ≡ spelled (header_of (layout_of old)) T.records =
+      ap (λ (l : Layout). spelled (header_of l) S.records) (sym laid) ∙ ap (spelled (header_of (layout_of old))) (sym same) in
       record {
         machine = standing;
-        spelled = spelled_here (subst (λ (w : Option Record). IfSome w Has) (sym wrote) tt)
-            (subst (λ (f : Option Record). IfSome f Has) (sym flight) tt);
+        spellings = lands_here flight (subst (λ (w : Option Record). IfSome w Has) (sym wrote) tt);
         stored = subst
             (λ (o : Option Tables). IsStored {g = g} layout T (book_if (is_some o) new) (disk_if (is_some o) new)) (sym down)
             (subst (λ (l : Layout). IsOnDisk g l T (disk_of new)) laid
             (stored_unpacked g size_is counts_now T old new
-            (subst (λ (rs : List Record). StandsFor old (map record_spelled rs)) (sym same) stands) fails
-            (subst (λ (rs : List Record). LeavesOnly g.moment g.left_since (disk_of old) (disk_of new)
-            (λ image. HasBodies (layout_of old) image (map record_spelled rs))) (sym same) run)));
+            (subst (λ (b : List (List ℕ)). StandsFor old b) there stands) fails
+            (subst (λ (b : List (List ℕ)). LeavesOnly g.moment g.left_since (disk_of old) (disk_of new)
+            (λ image. HasBodies (layout_of old) image b)) there run)));
       }
 
-  module _ (mid : Book D g) (rec : Record) (body : List ℕ) (kept : IsKept layout S mid)
-      (is : body ≡ record_spelled rec) (has : HasRecordSpelling catalog.sites rec) where
+  module _ (mid : Book D g) (rec : Record) (format : Format) (body : List ℕ) (kept : IsKept layout S mid)
+      (at : IsFormatAt format layout S) (is : body ≡ record_spelled format rec)
+      (has : HasRecordSpelling format catalog.sites rec) where
+    has_there : Has rec
+    has_there = subst (λ (f : Format). HasRecordSpelling f catalog.sites rec) at has
+
+    is_there : body ≡ record_spelled (format_at header S.records) rec
+    is_there = is ∙ ap (λ (f : Format). record_spelled f rec) at
+
     -- one was appended
     pub leaves_more : Appends mid new body → shape_of new ≡ shape_of mid → new.live ≡ mid.live
-        → (rule catalog i S event).wrote ≡ Some rec → came.wrote ≡ Some rec → came.flight ≡ None
+        → (rule header catalog i S event).wrote ≡ Some rec → came.wrote ≡ Some rec → came.flight ≡ None
         → IsLeft {g = g} layout m T new
     leaves_more appended shape live ruled wrote flight =
         let records : T.records ≡ S.records ++ rec ∷ [] = ap (λ (w : Option Record). records_after w S.records) wrote in
         let plain : S.up ≡ true → IsPlain rec =
-        λ up. subst (λ (w : Option Record). AnyPlain w) ruled (brings_plain catalog i S event up) in
+        λ up. subst (λ (w : Option Record). AnyPlain w) ruled (brings_plain header catalog i S event up) in
         let boot : S.up ≡ false → IsBoot rec =
-        λ down. subst (λ (w : Option Record). AnyBoot w) ruled (brings_boot catalog i S event down) in
+        λ down. subst (λ (w : Option Record). AnyBoot w) ruled (brings_boot header catalog i S event down) in
+        let needs : body_need body ≡ need_of (format_at header S.records) rec =
+        ap body_need is_there ∙ need_is (format_at header S.records) rec (fits_format _ catalog.sites rec has_there) in
         record {
           machine = standing;
-          spelled = spelled_here (subst (λ (w : Option Record). IfSome w Has) (sym wrote) has)
-              (subst (λ (f : Option Record). IfSome f Has) (sym flight) tt);
+          spellings = lands_here flight (subst (λ (w : Option Record). IfSome w Has) (sym wrote) has_there);
           stored = stored g size_is layout T new (is_up m) (same_layout mid new shape live ∙ kept.laid)
-              (subst (λ (w : Option Record). StandsFor new (map record_spelled (records_after w S.records))) (sym wrote)
+              (subst (λ (w : Option Record). StandsFor new (spelled header (records_after w S.records))) (sym wrote)
               (subst (λ (bodies : List (List ℕ)). StandsFor new bodies)
-              (ap (λ (b : List ℕ). map record_spelled S.records ++ b ∷ []) is
-              ∙ sym (map-append record_spelled S.records (rec ∷ [])))
-              (stands_more mid new body appended (map record_spelled S.records) kept.stands)))
+              (ap (λ (b : List ℕ). spelled header S.records ++ b ∷ []) is_there
+              ∙ sym (spelled-push header S.records rec))
+              (stands_more mid new body appended (spelled header S.records) kept.stands)))
               (λ up. appended.left ∙ ap (λ n. n - body_need body) kept.left
-              ∙ ap (λ n. left_behind layout S - n) (ap body_need is ∙ need_is rec has.sizes)
+              ∙ ap (λ n. left_behind layout S - n) needs
               ∙ sym (left_more layout S T rec (up_here ∙ up) records plain boot));
         }
 
     -- one is in flight
     pub leaves_flying : CountsNow g → Fails (g.known (disk_of mid)) (g.known (disk_of new))
         → LeavesOnly g.moment g.left_since (disk_of mid) (disk_of new)
-        (IsLaidBeforeOrBehind mid.live (shape_of mid) (map record_spelled S.records) body) → tables_in m ≡ None
+        (IsLaidBeforeOrBehind mid.live (shape_of mid) (spelled header S.records) body) → tables_in m ≡ None
         → came.wrote ≡ None → came.flight ≡ Some rec → IsLeft {g = g} layout m T new
     leaves_flying counts_now fails run down wrote flight = record {
       machine = standing;
-      spelled = spelled_here (subst (λ (w : Option Record). IfSome w Has) (sym wrote) tt)
-          (subst (λ (f : Option Record). IfSome f Has) (sym flight) has);
+      spellings = spelled_here (subst (λ (w : Option Record). IfSome w Has) (sym wrote) tt)
+          (subst (λ (w : Option Record). IfSome came.flight (Behind header catalog.sites S.records w)) (sym wrote)
+          (subst (λ (f : Option Record). IfSome f Has) (sym flight) has_there));
       stored = subst
           (λ (o : Option Tables). IsStored {g = g} layout T (book_if (is_some o) new) (disk_if (is_some o) new)) (sym down)
           (subst (λ (l : Layout). IsOnDisk g l T (disk_of new)) kept.laid
-          (stored_failed g size_is counts_now S.records rec T mid new kept.stands fails
+          (stored_failed g size_is counts_now S.records rec T mid new
+          (subst (λ (l : Layout). StandsFor mid (spelled (header_of l) S.records)) (sym kept.laid) kept.stands) fails
+          (subst (λ (l : Layout). LeavesOnly g.moment g.left_since (disk_of mid) (disk_of new)
+          (IsLaidBeforeOrBehind mid.live (shape_of mid) (spelled (header_of l) S.records)
+          (record_spelled (format_at (header_of l) S.records) rec))) (sym kept.laid)
           (subst (λ (b : List ℕ). LeavesOnly g.moment g.left_since (disk_of mid) (disk_of new)
-          (IsLaidBeforeOrBehind mid.live (shape_of mid) (map record_spelled S.records) b)) is run)
+          (IsLaidBeforeOrBehind mid.live (shape_of mid) (spelled header S.records) b)) is_there run))
           (ap (λ (w : Option Record). records_after w S.records) wrote)
           (ap (λ (f : Option Record). flight_after f came.wrote came.outcome S.flight) flight)));
     }
@@ -362,12 +391,12 @@ ups_same catalog i S event came outcome is stays up =
     sym stays ∙ sym (ap (λ (o : Outcome). up_after event o S.up) is) ∙ up
 
 -- where the rule brings none
-pub ups_ruled : (catalog : Catalog) (i : SiteId) (S : Standing) (event : Event) (came : Came)
-    → came.outcome ≡ (rule catalog i S event).outcome → (rule catalog i S event).wrote ≡ None
+pub ups_ruled : (header : Format) (catalog : Catalog) (i : SiteId) (S : Standing) (event : Event) (came : Came)
+    → came.outcome ≡ (rule header catalog i S event).outcome → (rule header catalog i S event).wrote ≡ None
     → (stands_after catalog i S event came).up ≡ true → S.up ≡ true
-ups_ruled catalog i S event came is none up = by S.up refl
+ups_ruled header catalog i S event came is none up = by S.up refl
   where
     by : (before : Bool) → S.up ≡ before → S.up ≡ true
     by true now = now
     by false now =
-        absurd (let e = sym (ap (λ (o : Outcome). up_after event o S.up) is ∙ ap (λ (b : Bool). up_after event (rule catalog i S event).outcome b) now ∙ stays_down catalog i S event now none) ∙ up in cc)
+        absurd (let e = sym (ap (λ (o : Outcome). up_after event o S.up) is ∙ ap (λ (b : Bool). up_after event (rule header catalog i S event).outcome b) now ∙ stays_down header catalog i S event now none) ∙ up in cc)

@@ -52,7 +52,7 @@ abbrev pub MayHaveNext : Catalog → Layout → SiteId → Standing → Event �
 MayHaveNext catalog layout i S event kept image =
     MayHaveRecords layout S.records S.flight image
     ⊎ HasOneMore layout (settled catalog i kept S).records
-        (rule (header_of layout) catalog i (settled catalog i kept S) event).wrote image
+    (rule (header_of layout) catalog i (settled catalog i kept S) event).wrote image
 
 -- each record of a site among so many has a spelling at its place, and the one in flight behind them
 pub record AreSpelled (header : Format) (sites : ℕ) (S : Standing) : Type 0 where

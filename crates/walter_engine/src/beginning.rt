@@ -1,5 +1,7 @@
 //! The first restart of a site.
 ghost use Rattle.std.specs.Prelude.{◌≡◌, ◌+◌, ◌≤◌, [], ◌∷◌, map, is_ok, is_some, None, Result, OnOk};
+ghost use Rattle.walter_base.specs.declared.format.Format.TheVariants.{First};
+ghost use Rattle.walter_base.specs.Sizes.{most_in};
 ghost use Rattle.walter_disk.specs.Images.{LeavesOnly};
 ghost use Rattle.walter_engine.specs.declared.answers.BeginFault.{BeginFault as Fault};
 ghost use Rattle.walter_engine.specs.Begins.{IsFaultOfBegin};
@@ -30,6 +32,7 @@ pub(crate) fn begin_over<D: Disk>(
     requires down { tables_in machine.old ≡ None }
     requires place { 10 ≤ left_over (layout_of book.old) [] }
     requires sites { (shape_of book.old).sites ≡ (catalog_in machine.old).sites }
+    requires most { (catalog_in machine.old).sites ≤ most_in First }
     requires pack_room { HasPackRoom book.old }
     requires ready { IsReady book.old (map (λ body. body.items) bodies.now) }
     requires goes_on { GoesOnBehind book.old (map (λ body. body.items) bodies.now) }

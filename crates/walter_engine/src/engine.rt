@@ -1,9 +1,10 @@
 //! A site with its disk: events come to it, and what they bring is journaled.
 ghost use Rattle.std.specs.Prelude.{◌≡◌, ◌≢◌, ◌+◌, ◌<◌, ◌≤◌, ℕ, List, ◌++◌, ◌∷◌, [], true, false, not, None, Some, map, is_ok, is_some, IsSome, IfSome, IfOk, IfErr, OnOk, OnErr, option_map};
-ghost use Rattle.walter_base.specs.Vectors.{most_sites};
+ghost use Rattle.walter_base.specs.declared.format.Format.TheVariants.{First};
+ghost use Rattle.walter_base.specs.Sizes.{most_in};
 ghost use Rattle.walter_checkpoint.specs.Loads.{IsAreas};
 ghost use Rattle.walter_engine.specs.Props.{props};
-ghost use Rattle.walter_machine.specs.Machines.{is_up as is_up_machine};
+ghost use Rattle.walter_machine.specs.Machines.{is_up as is_up_machine, catalog_in as machine_catalog};
 
 use crate::answers::{BeginFault, Effect, RefusedRestart};
 use crate::beginning::{begin_over, not_loaded};
@@ -12,7 +13,7 @@ use crate::store::{arm, close_unless, into_disk};
 use crate::writing::write;
 use std::alloc::Global;
 use std::mem;
-use walter_base::{Catalog, MaybeRecord, Mem, NoMemory, SiteId};
+use walter_base::{Catalog, Format, MaybeRecord, Mem, NoMemory, SiteId};
 use walter_checkpoint::{Book, books_differ, load};
 use walter_disk::Disk;
 use walter_machine::{Machine, Ready};
@@ -34,6 +35,7 @@ pub struct Engine<D: Disk> {
     ghost open: { is_some book ≡ is_up_machine machine },
     ghost bare: { is_some disk ≡ not (is_up_machine machine) },
     ghost laid: { IsAreas areas capacity } by { Prim.hlevel props },
+    ghost most: { (machine_catalog machine).sites ≤ most_in First },
 }
 
 impl<D: Disk + Drop> Engine<D> {
@@ -69,7 +71,7 @@ impl<D: Disk + Drop> Engine<D> {
         areas: u8,
     ) -> Result<Engine<D>, D>
         requires here { site.0 < catalog.now.sites }
-        requires most { catalog.now.sites ≤ most_sites }
+        requires most { catalog.now.sites ≤ most_in First }
         requires fewer { catalog.now.tolerated < catalog.now.sites }
         requires areas { IsAreas areas capacity }
         ensures disk { IfOk result (λ engine. disk_in engine ≡ Some disk) }
@@ -83,7 +85,7 @@ impl<D: Disk + Drop> Engine<D> {
         ensures back { IfErr result (λ back. back ≡ disk) }
         // over a journal with the records of a site that is down, and owes no client anything
         ensures stands { (S : Standing) → S.up ≡ false → S.flight ≡ None → ((client : ℕ) → S.gone client ≡ None)
-            → AreTold catalog.now site S → AreSpelled catalog.now.sites S
+            → AreTold catalog.now site S → AreSpelled First catalog.now.sites S
             → IsOnDisk D.Disk (layout_for areas capacity catalog.now.sites) S disk
             → IfOk result (λ engine. Stands engine S) }
     {
@@ -222,14 +224,23 @@ impl<D: Disk + Drop> Engine<D> {
             unreachable!()
         };
         let ready = &mut self.ready;
-        let Ok(()) = self.machine.prepare(event, ready) else {
+        let format = self.machine.format();
+        let Ok(()) = self.machine.prepare(event, Format::First, ready) else {
             self.machine.want(event, came);
             return Effect {
                 frames: Vec::new(self.alloc),
                 refused: None,
             };
         };
-        let frames = write(self.alloc, &mut self.machine, book, event, ready, came);
+        let frames = write(
+            self.alloc,
+            &mut self.machine,
+            book,
+            format,
+            event,
+            ready,
+            came,
+        );
         close_unless(self.machine.is_up(), &mut self.book, &mut self.disk);
         Effect {
             frames,

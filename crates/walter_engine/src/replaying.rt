@@ -3,34 +3,37 @@ ghost use Rattle.std.specs.Prelude.{◌≡◌, ◌≤◌, ◌<◌, map, IfOk, If
 ghost use Rattle.walter_tables.specs.Sites.{site_of, catalog_of};
 ghost use Rattle.walter_engine.specs.Effects.{IsRefusedOver};
 ghost use Rattle.walter_engine.specs.Replays.{Takes, IsUnfit, Tells, IsReadyOver};
-ghost use Rattle.walter_base.specs.Vectors.{most_sites};
+ghost use Rattle.walter_base.specs.declared.format.Format.TheVariants.{First};
+ghost use Rattle.walter_base.specs.Sizes.{most_in};
 
 use crate::answers::RefusedRestart;
 use std::alloc::Global;
-use walter_base::{Catalog, NoMemory, SiteId};
+use walter_base::{Catalog, Format, NoMemory, SiteId};
 use walter_machine::{BootFault, Ready};
 use walter_tables::{ReplayFault, Tables};
 
-/// A restart that is ready behind these bodies. There is none where it is refused for what they are, or memory ran out.
+/// A restart that is ready behind these bodies, and the format of its record. There is none where it is refused for what they are, or memory ran out.
 pub(crate) fn ready_over(
     alloc: Global,
     catalog: &Catalog,
     id: SiteId,
     bodies: &[Vec<u8>],
-) -> Result<Ready, Option<RefusedRestart>>
+) -> Result<(Ready, Format), Option<RefusedRestart>>
     requires here { id.0 < catalog.now.sites }
-    requires most { catalog.now.sites ≤ most_sites }
+    requires most { catalog.now.sites ≤ most_in First }
     requires fewer { catalog.now.tolerated < catalog.now.sites }
-    ensures ready { IfOk result (IsReadyOver catalog.now id (map (λ body. body.items) bodies.now)) }
+    ensures ready { IfOk result (λ ready.
+        IsReadyOver First catalog.now id (map (λ body. body.items) bodies.now) ready.0 ready.1) }
     ensures refused { IfErr result (λ why.
-        IfSome why (IsRefusedOver catalog.now id (map (λ body. body.items) bodies.now))) }
+        IfSome why (IsRefusedOver First catalog.now id (map (λ body. body.items) bodies.now))) }
 {
     let tables = match replay_all(alloc, catalog, id, bodies) {
         Ok(tables) => tables,
         Err(why) => return Err(why),
     };
+    let format = tables.format();
     match Ready::boot(alloc, tables) {
-        Ok(ready) => Ok(ready),
+        Ok(ready) => Ok((ready, format)),
         Err(BootFault::LastEpoch) => Err(Some(RefusedRestart::LastEpoch)),
         Err(BootFault::NoMemory) => Err(None),
     }
@@ -44,13 +47,13 @@ fn replay_all(
     bodies: &[Vec<u8>],
 ) -> Result<Tables, Option<RefusedRestart>>
     requires here { id.0 < catalog.now.sites }
-    requires most { catalog.now.sites ≤ most_sites }
+    requires most { catalog.now.sites ≤ most_in First }
     requires fewer { catalog.now.tolerated < catalog.now.sites }
     ensures site { IfOk result (λ tables. site_of tables ≡ id) }
     ensures catalog { IfOk result (λ tables. catalog_of tables ≡ catalog.now) }
-    ensures told { IfOk result (Tells catalog.now id (map (λ body. body.items) bodies.now)) }
+    ensures told { IfOk result (Tells First catalog.now id (map (λ body. body.items) bodies.now)) }
     ensures refused { IfErr result (λ why.
-        IfSome why (IsRefusedOver catalog.now id (map (λ body. body.items) bodies.now))) }
+        IfSome why (IsRefusedOver First catalog.now id (map (λ body. body.items) bodies.now))) }
 {
     let Ok(copy) = catalog.clone() else {
         return Err(None);
@@ -72,7 +75,7 @@ fn replay_all(
     Ok(tables)
 }
 
-// Takes the record that the body spells.
+// Takes the record that the body spells in the format that those before it tell.
 fn replay_body(
     alloc: Global,
     tables: &mut Tables,
@@ -80,13 +83,13 @@ fn replay_body(
     sites: u8,
 ) -> Result<(), ReplayFault>
     requires sites { (catalog_of tables.old).sites ≡ sites }
-    requires most { sites ≤ most_sites }
-    ensures taken { OnOk result (Takes tables.old body.now tables.new) }
-    ensures unfit { IfErr result (IsUnfit tables.old body.now) }
+    requires most { sites ≤ most_in First }
+    ensures taken { OnOk result (Takes First tables.old body.now tables.new) }
+    ensures unfit { IfErr result (IsUnfit First tables.old body.now) }
     ensures site { site_of tables.new ≡ site_of tables.old }
     ensures catalog { catalog_of tables.new ≡ catalog_of tables.old }
 {
-    match walter_record::decode(alloc, body, sites) {
+    match walter_record::decode(alloc, body, sites, tables.format()) {
         Ok(Some(rec)) => tables.replay(rec),
         Ok(None) => Err(ReplayFault::Unfit),
         Err(NoMemory) => Err(ReplayFault::NoMemory),

@@ -1,5 +1,7 @@
 //! A restart of a site over the book of its disk.
 ghost use Rattle.std.specs.Prelude.{◌≡◌, ◌+◌, ◌<◌, ◌≤◌, ◌^◌, [], None, false, map, length, is_some, IfSome, OnErr, OnOk};
+ghost use Rattle.walter_base.specs.declared.format.Format.TheVariants.{First};
+ghost use Rattle.walter_base.specs.Sizes.{most_in};
 ghost use Rattle.walter_disk.specs.Disks.{Fails};
 ghost use Rattle.walter_disk.specs.Images.{LeavesOnly};
 ghost use Rattle.walter_engine.specs.Contents.{HasBodies, MayHaveNext};
@@ -37,6 +39,7 @@ pub(crate) fn raise<D: Disk>(
     requires down { tables_in machine.old ≡ None }
     requires countable { records_in machine.old + 1 < 2 ^ 64 }
     requires sites { (shape_of book.old).sites ≡ (catalog_in machine.old).sites }
+    requires most { (catalog_in machine.old).sites ≤ most_in First }
     requires pack_room { HasPackRoom book.old }
     requires ready { IsReady book.old (map (λ body. body.items) bodies.now) }
     requires goes_on { GoesOnBehind book.old (map (λ body. body.items) bodies.now) }
@@ -49,9 +52,9 @@ pub(crate) fn raise<D: Disk>(
         → LeavesOnly D.moment D.left_since (disk_of book.old) (disk_of book.new)
         (MayHaveNext (catalog_in machine.old) layout (site_in machine.old) S event.Restart None) }
     ensures refused { IfSome result (λ why. (disk_of book.new ≡ disk_of book.old)
-        × IsRefusedOver (catalog_in machine.old) (site_in machine.old) (map (λ body. body.items) bodies.now) why) }
+        × IsRefusedOver First (catalog_in machine.old) (site_in machine.old) (map (λ body. body.items) bodies.now) why) }
     // over any bodies
-    ensures over { ComesOf (catalog_in machine.old) (site_in machine.old)
+    ensures over { ComesOf First (catalog_in machine.old) (site_in machine.old)
         (left_over (layout_of book.old) (map (λ body. body.items) bodies.now))
         (map (λ body. body.items) bodies.now) came.new.wrote result came.new.outcome }
     ensures up { is_up machine.new ≡ up_after event.Restart came.new.outcome false }
@@ -66,7 +69,7 @@ pub(crate) fn raise<D: Disk>(
         (D.device_calls (disk_of book.old)) (D.device_calls (disk_of book.new)) }
     ensures same { IsSameSite machine.old machine.new }
 {
-    let mut ready = match ready_over(alloc, machine.catalog(), machine.id(), bodies) {
+    let (mut ready, format) = match ready_over(alloc, machine.catalog(), machine.id(), bodies) {
         Ok(ready) => ready,
         Err(why) => {
             machine.rest(hindrance(why), came);
@@ -77,7 +80,7 @@ pub(crate) fn raise<D: Disk>(
         machine.want(&Event::Restart, came);
         return None;
     };
-    let Ok(body) = spell_any(alloc, book, &ready) else {
+    let Ok(body) = spell_any(alloc, book, format, &ready) else {
         machine.want(&Event::Restart, came);
         return None;
     };
@@ -89,6 +92,7 @@ pub(crate) fn raise<D: Disk>(
         alloc,
         machine,
         book,
+        format,
         &Event::Restart,
         &mut ready,
         body,

@@ -1,14 +1,15 @@
 //! An event that is ready, once its record is journaled.
-ghost use Rattle.std.specs.Prelude.{◌≡◌, ℕ, List, None, false, length, IsSome, IfOk, IfSome, OnErr, OnOk};
-ghost use Rattle.walter_base.specs.Sizes.{CanBeRecorded};
+ghost use Rattle.std.specs.Prelude.{◌≡◌, ◌≤◌, ℕ, List, None, false, length, IsSome, IfOk, IfSome, OnErr, OnOk};
+ghost use Rattle.walter_base.specs.Sizes.{CanBeRecorded, most_in};
 ghost use Rattle.walter_checkpoint.specs.Books.{HasPackRoom, HasRoomBehind, IsReady};
 ghost use Rattle.walter_engine.specs.Writings.{HasRoomIfAny, IsSameButRoom, IsSpelling, IsSpellingIfAny, Writes};
 ghost use Rattle.walter_machine.specs.Comings.{IsOutcomeAlone};
 ghost use Rattle.walter_machine.specs.Machines.{catalog_in, site_in, tables_in, is_up, HasRoom, IsCountable};
 ghost use Rattle.walter_machine.specs.Readiness.{IsReadyAnyway, rec_in};
+ghost use Rattle.walter_record.specs.Spelling.{FitsFormat};
 
 use std::alloc::Global;
-use walter_base::{Bytes, Mem, NoMemory, Record};
+use walter_base::{Bytes, Format, Mem, NoMemory, Record};
 use walter_checkpoint::Book;
 use walter_disk::Disk;
 use walter_journal::AppendFault;
@@ -16,12 +17,13 @@ use walter_machine::{Machine, Ready};
 use walter_packet::Framed;
 use walter_rules::{Came, Event};
 
-/// An event that is ready comes to a site. Its record, if there is one, is journaled first. All the memory that this
+/// An event that is ready comes to a site. Its record, if there is one, is journaled first, in this format. All the memory that this
 /// takes is taken before the book is written to. What is to be put out has its frames.
 pub(crate) fn write<D: Disk>(
     alloc: Global,
     machine: &mut Machine,
     book: &mut Book<D>,
+    format: Format,
     event: &Event,
     ready: &mut Ready,
     came: &mut Came,
@@ -31,10 +33,12 @@ pub(crate) fn write<D: Disk>(
     requires anyway { IsReadyAnyway (catalog_in machine.old) (site_in machine.old) (tables_in machine.old) event.now
         ready.old }
     requires alone { IsOutcomeAlone came.old }
-    ensures { Writes D.Disk machine.old machine.new book.old book.new event.now ready.old came.new result.items }
+    requires sites { (catalog_in machine.old).sites ≤ most_in format }
+    ensures { Writes D.Disk format machine.old machine.new book.old book.new event.now ready.old came.new
+        result.items }
 {
-    match spell_any(alloc, book, ready) {
-        Ok(body) => put(alloc, machine, book, event, ready, body, came),
+    match spell_any(alloc, book, format, ready) {
+        Ok(body) => put(alloc, machine, book, format, event, ready, body, came),
         Err(_) => {
             machine.want(event, came);
             Vec::new(alloc)
@@ -47,6 +51,7 @@ pub(crate) fn put<D: Disk>(
     alloc: Global,
     machine: &mut Machine,
     book: &mut Book<D>,
+    format: Format,
     event: &Event,
     ready: &mut Ready,
     body: Option<Bytes>,
@@ -57,8 +62,9 @@ pub(crate) fn put<D: Disk>(
     requires anyway { IsReadyAnyway (catalog_in machine.old) (site_in machine.old) (tables_in machine.old) event.now
         ready.old }
     requires alone { IsOutcomeAlone came.old }
-    requires spelled { IsSpellingIfAny book.old (rec_in ready.old) body }
-    ensures { Writes D.Disk machine.old machine.new book.old book.new event.now ready.old came.new result.items }
+    requires spelled { IsSpellingIfAny format book.old (rec_in ready.old) body }
+    ensures { Writes D.Disk format machine.old machine.new book.old book.new event.now ready.old came.new
+        result.items }
 {
     let Some(body) = body else {
         return machine.keep(event, ready, came);
@@ -80,10 +86,12 @@ pub(crate) fn put<D: Disk>(
 pub(crate) fn spell_any<D: Disk>(
     alloc: Global,
     book: &mut Book<D>,
+    format: Format,
     ready: &Ready,
 ) -> Mem<Option<Bytes>>
-    requires { IfSome (rec_in ready.now) CanBeRecorded }
-    ensures spelled { IfOk result (IsSpellingIfAny book.new (rec_in ready.now)) }
+    requires sized { IfSome (rec_in ready.now) CanBeRecorded }
+    requires fits { IfSome (rec_in ready.now) (FitsFormat format) }
+    ensures spelled { IfOk result (IsSpellingIfAny format book.new (rec_in ready.now)) }
     ensures free { OnErr result (IsSome (rec_in ready.now)) }
     // where a pack is ready, there is room behind it too
     ensures behind { (bodies : List (List ℕ)) → IsReady book.old bodies → IfOk result (HasRoomIfAny book.new) }
@@ -92,21 +100,22 @@ pub(crate) fn spell_any<D: Disk>(
     ensures untouched { rec_in ready.now ≡ None → book.new ≡ book.old }
 {
     match ready.record() {
-        Some(rec) => Ok(Some(spell(alloc, book, rec)?)),
+        Some(rec) => Ok(Some(spell(alloc, book, format, rec)?)),
         None => Ok(None),
     }
 }
 
 // The spelling of a record, for which the book has room then.
-fn spell<D: Disk>(alloc: Global, book: &mut Book<D>, rec: &Record) -> Mem<Bytes>
-    requires { CanBeRecorded rec.now }
-    ensures spelled { IfOk result (IsSpelling book.new rec.now) }
+fn spell<D: Disk>(alloc: Global, book: &mut Book<D>, format: Format, rec: &Record) -> Mem<Bytes>
+    requires sized { CanBeRecorded rec.now }
+    requires fits { FitsFormat format rec.now }
+    ensures spelled { IfOk result (IsSpelling format book.new rec.now) }
     ensures behind { (bodies : List (List ℕ)) → IsReady book.old bodies
         → IfOk result (λ body. HasRoomBehind book.new (length body)) }
     ensures pack_room { OnOk result (HasPackRoom book.old → HasPackRoom book.new) }
     ensures same { IsSameButRoom book.old book.new }
 {
-    let body = walter_record::encode(alloc, rec)?;
+    let body = walter_record::encode(alloc, rec, format)?;
     match book.make_room(body.as_slice().len() as u64) {
         Ok(()) => Ok(body),
         Err(_) => Err(NoMemory),
