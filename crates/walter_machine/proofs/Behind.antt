@@ -3,6 +3,7 @@ use Rattle.std.specs.Global.{Box}
 use Rattle.std.proofs.Common.{◌≡◌, ◌∙◌, ℕ, Bool, true, false, Option, Some, None, refl, sym, ap, subst, if◌then◌else◌}
 use Rattle.std.specs.Prelude.{IfSome, is_some}
 use Rattle.walter_base.specs.declared.catalog.Catalog.{Catalog}
+use Rattle.walter_base.specs.declared.format.Format.{Format}
 use Rattle.walter_base.specs.declared.message.Record.{Record}
 use Rattle.walter_base.specs.declared.names.SiteId.{SiteId}
 use Rattle.walter_machine.specs.Steps.{Answer, Apply, Fall, Rise, came_of, IsIdle, IsPlan, IsPlanOf, IsRise, IsStop, IsKnownBy, Steps}
@@ -100,7 +101,7 @@ pub plan_stays : (tables : Tables) (K : Knowledge) (input : Input) (plan : Plan)
     → goes_down (Given input) plan.planned.outcome ≡ false
 plan_stays tables K input plan is =
     subst (λ (x : Expected). goes_down (Given input) x.outcome ≡ false) (sym is.rule)
-    (rule_stays (catalog_of tables) (site_of tables) (up_with K) input)
+    (rule_stays (catalog_of tables) (site_of tables) (up_with K) is.header input)
 
 -- a plan was applied
 pub plan_steps : (catalog : Catalog) (i : SiteId) (S : Standing) (event : Event) (plan : Plan) (old new : Option Tables)
@@ -161,7 +162,8 @@ rise_steps catalog i site S event tables epoch is =
 -- what applying a plan leaves of the site that it is of
 pub applied_knows : (old : Option Tables) (event : Event) (S : Standing) (plan : Plan) (t new : Tables) (input : Input)
     → old ≡ Some t → event ≡ Given input
-    → ((K : Knowledge) → Knows t K → expected_of plan.planned ≡ input_rule (catalog_of t) (site_of t) K input
+    → ((header : Format) (K : Knowledge) → Knows t K
+    → expected_of plan.planned ≡ input_rule header (catalog_of t) (site_of t) K input
     → Knows new (after (catalog_of t) (site_of t) K (Given input) plan.planned.outcome plan.planned.rec))
     → IsPlan old S event plan
     → IfSome old (λ t. IsKnownBy (Some new) (after (catalog_of t) (site_of t) S.knows event plan.planned.outcome plan.planned.rec))
@@ -169,7 +171,7 @@ applied_knows old event S plan t new input site_is event_is applies =
     let P : Option Tables → Event → Type 0 = λ o e. IsPlan o S e plan
     → IfSome o (λ t. IsKnownBy (Some new) (after (catalog_of t) (site_of t) S.knows e plan.planned.outcome plan.planned.rec)) in
     subst (λ (o : Option Tables). P o event) (sym site_is)
-    (subst (λ (e : Event). P (Some t) e) (sym event_is) (λ is. applies S.knows is.knows is.rule))
+    (subst (λ (e : Event). P (Some t) e) (sym event_is) (λ is. applies is.header S.knows is.knows is.rule))
 
 -- it is the same site
 pub applied_of : (old : Option Tables) (t new : Tables) (catalog : Catalog) (i : SiteId) → old ≡ Some t

@@ -3,6 +3,7 @@ use Rattle.std.proofs.Common.{◌≡◌, ℕ, zero, suc, Bool, true, false, [], 
 use Rattle.std.specs.Prelude.{◌≢◌, ℤ, not, is_some, OnErr}
 use Rattle.std.specs.FinMap.{get}
 use Rattle.walter_base.specs.declared.catalog.Catalog.{Catalog}
+use Rattle.walter_base.specs.declared.format.Format.{Format}
 use Rattle.walter_base.specs.declared.containers.Container.{Container}
 use Rattle.walter_base.specs.declared.message.BadFrame.{BadFrame as Bad}
 use Rattle.walter_base.specs.declared.message.Refusal.TheVariants.{WrongSite, NotIssued}
@@ -19,7 +20,7 @@ use Rattle.walter_base.specs.Values.{count_of}
 use Rattle.walter_site.specs.Members.{input_rule}
 use Rattle.walter_rules.specs.declared.event.Event.TheVariants.{Given}
 use Rattle.walter_rules.specs.declared.event.Input.{Input}
-use Rattle.walter_rules.specs.declared.event.Input.TheVariants.{Call, Deliver, Advance, Tick}
+use Rattle.walter_rules.specs.declared.event.Input.TheVariants.{Call, Deliver, Advance, Tick, Upgrade}
 use Rattle.walter_rules.specs.Calls.{Expected, call_rule, if_cset, if_counted, answers, refuses, tells_level, is_issued, level_of, read_updates}
 use Rattle.walter_rules.specs.Knowledge.{Knowledge, session_of}
 use Rattle.walter_rules.specs.Rule.{MayWant}
@@ -79,17 +80,18 @@ free_or_may catalog i K (Ok Abort) None = inl (refl, refl)
 free_or_may catalog i K (Ok Abort) (Some s) = inl (abort_free catalog i K s.slow s refl)
 free_or_may catalog i K (Ok (LevelAsked tid)) session = inl (level_free catalog i K tid)
 
-free_or_takes : (catalog : Catalog) (i : SiteId) (K : Knowledge) (input : Input)
-    → IsFree (input_rule catalog i K input) ⊎ TakesMemory true (Given input)
-free_or_takes catalog i K (Call client call) = free_or_may catalog i K call (session_of K client)
-free_or_takes catalog i K (Deliver from number packet) = inr tt
-free_or_takes catalog i K (Advance from) = inr tt
-free_or_takes catalog i K Tick = inr tt
+free_or_takes : (header : Format) (catalog : Catalog) (i : SiteId) (K : Knowledge) (input : Input)
+    → IsFree (input_rule header catalog i K input) ⊎ TakesMemory true (Given input)
+free_or_takes header catalog i K (Call client call) = free_or_may catalog i K call (session_of K client)
+free_or_takes header catalog i K (Deliver from number packet) = inr tt
+free_or_takes header catalog i K (Advance from) = inr tt
+free_or_takes header catalog i K Tick = inr tt
+free_or_takes header catalog i K Upgrade = inr tt
 
-module _ (catalog : Catalog) (i : SiteId) (K : Knowledge) (input : Input) (x : Expected)
-    (planned : x ≡ input_rule catalog i K input) where
+module _ (header : Format) (catalog : Catalog) (i : SiteId) (K : Knowledge) (input : Input) (x : Expected)
+    (planned : x ≡ input_rule header catalog i K input) where
   pub record_takes : is_some x.wrote ≡ true → TakesMemory true (Given input)
-  record_takes some = elim (free_or_takes catalog i K input) [
+  record_takes some = elim (free_or_takes header catalog i K input) [
     | inl free ↦
         let none = ap (λ (x : Expected). is_some x.wrote) planned ∙ ap is_some free.0 in
         absurd (let e = sym some ∙ none in cc)
@@ -97,7 +99,7 @@ module _ (catalog : Catalog) (i : SiteId) (K : Knowledge) (input : Input) (x : E
   ]
 
   pub sends_take : x.sends ≢ [] → TakesMemory true (Given input)
-  sends_take some = elim (free_or_takes catalog i K input) [
+  sends_take some = elim (free_or_takes header catalog i K input) [
     | inl free ↦ absurd (some (ap (λ (x : Expected). x.sends) planned ∙ free.1))
     | inr takes ↦ takes
   ]

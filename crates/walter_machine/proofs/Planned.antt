@@ -3,6 +3,7 @@ use Rattle.std.specs.Global.{Box}
 use Rattle.std.proofs.Common.{◌≡◌, ◌∙◌, ℕ, ◌+◌, Bool, true, false, [], map, Option, Some, None, Result, Ok, Err, refl, sym, ap, subst}
 use Rattle.std.specs.Prelude.{All, IfSome, OnOk, is_some}
 use Rattle.walter_base.specs.declared.catalog.Catalog.{Catalog}
+use Rattle.walter_base.specs.declared.format.Format.{Format}
 use Rattle.walter_base.specs.declared.message.BadFrame.{BadFrame as Bad}
 use Rattle.walter_base.specs.declared.message.Record.{Record}
 use Rattle.walter_base.specs.declared.message.Record.TheVariants.{Boot}
@@ -24,7 +25,7 @@ use Rattle.walter_packet.specs.Framed.{frame_of}
 use Rattle.walter_packet.specs.Spelling.{HasPacketSpelling}
 use Rattle.walter_rules.specs.declared.event.Event.TheVariants.{Given, Restart}
 use Rattle.walter_rules.specs.declared.event.Input.{Input}
-use Rattle.walter_rules.specs.declared.event.Input.TheVariants.{Call, Deliver, Advance, Tick}
+use Rattle.walter_rules.specs.declared.event.Input.TheVariants.{Call, Deliver, Advance, Tick, Upgrade}
 use Rattle.walter_rules.specs.declared.outcome.Outcome.TheVariants.{Taken}
 use Rattle.walter_rules.specs.Calls.{Expected, call_rule, if_told}
 use Rattle.walter_rules.specs.Knowledge.{Knowledge, session_of}
@@ -50,19 +51,20 @@ told_level asked None x = refl
 told_level asked (Some tid) x = refl
 
 -- where the client isn't told of a transaction in the place of an answer, it goes by what the site knows
-told_rule : (catalog : Catalog) (i : SiteId) (S : Standing) (input : Input) (owing : Option Tid)
+told_rule : (header : Format) (catalog : Catalog) (i : SiteId) (S : Standing) (input : Input) (owing : Option Tid)
     → IsDebtOf S.gone input owing → gone_first owing input ≡ None
-    → given_rule catalog i S input ≡ input_rule catalog i S.knows input
-told_rule catalog i S (Call client (Err bad)) owing owes first =
+    → given_rule header catalog i S input ≡ input_rule header catalog i S.knows input
+told_rule header catalog i S (Call client (Err bad)) owing owes first =
     told_bad bad (S.gone client) (call_rule catalog i S.knows (Err bad) (session_of S.knows client))
-told_rule catalog i S (Call client (Ok (LevelAsked asked))) owing owes first =
+told_rule header catalog i S (Call client (Ok (LevelAsked asked))) owing owes first =
     told_level asked (S.gone client) (call_rule catalog i S.knows (Ok (LevelAsked asked)) (session_of S.knows client))
-told_rule catalog i S (Call client (Ok request)) owing owes first =
+told_rule header catalog i S (Call client (Ok request)) owing owes first =
     ap (λ (o : Option Tid). if_told (Ok request) o (call_rule catalog i S.knows (Ok request) (session_of S.knows client)))
     (owes ∙ first)
-told_rule catalog i S (Deliver from number packet) owing owes first = refl
-told_rule catalog i S (Advance from) owing owes first = refl
-told_rule catalog i S Tick owing owes first = refl
+told_rule header catalog i S (Deliver from number packet) owing owes first = refl
+told_rule header catalog i S (Advance from) owing owes first = refl
+told_rule header catalog i S Tick owing owes first = refl
+told_rule header catalog i S Upgrade owing owes first = refl
 
 -- a record can be the next, where there is one
 next_here : (catalog : Catalog) (i : SiteId) (S : Standing) (rec : Option Record) → IfSome rec (IsRecordAmong catalog.sites)
@@ -79,28 +81,29 @@ takes_here None P so = tt
 takes_here (Some rec) P so = so refl
 
 -- a plan
-pub plan_ready : (catalog : Catalog) (i : SiteId) (S : Standing) (old new : Tables) (input : Input) (owing : Option Tid)
-    (plan : Plan) → site_of old ≡ i → catalog_of old ≡ catalog → site_of new ≡ site_of old → catalog_of new ≡ catalog_of old
+pub plan_ready : (header : Format) (catalog : Catalog) (i : SiteId) (S : Standing) (old new : Tables) (input : Input)
+    (owing : Option Tid) (plan : Plan) → site_of old ≡ i → catalog_of old ≡ catalog → site_of new ≡ site_of old
+    → catalog_of new ≡ catalog_of old
     → IsUp S old → IsDebtOf S.gone input owing → gone_first owing input ≡ None
     → Knows new S.knows
-    → expected_of plan.planned ≡ input_rule (catalog_of old) (site_of old) S.knows input → IsReady new input plan
+    → expected_of plan.planned ≡ input_rule header (catalog_of old) (site_of old) S.knows input → IsReady new input plan
     → IfSome plan.planned.rec (CanFollow (catalog_of old) (site_of old) S.knows)
     → IfSome plan.planned.rec (IsRecordAmong (catalog_of old).sites)
     → IsShortOutcome plan.planned.outcome → All (λ s. HasPacketSpelling catalog.sites s.1) plan.planned.sends
     → (ready : Ready) → step_in ready ≡ Apply plan
     → ready.frames.items ≡ map (λ s. frame_of catalog.sites s.1) plan.planned.sends
-    → IsReadyFor catalog i (Some new) S (Given input) ready
-plan_ready catalog i S old new input owing plan site_is catalog_is same_site same_catalog up owes first knows ruled made follows sizes short spelled ready is framed =
+    → IsReadyFor header catalog i (Some new) S (Given input) ready
+plan_ready header catalog i S old new input owing plan site_is catalog_is same_site same_catalog up owes first knows ruled made follows sizes short spelled ready is framed =
     record {
-      rule = ap expected_by is ∙ (planned ∙ sym (ap (λ (b : Bool). rule_where b catalog i S input) up.up
-          ∙ told_rule catalog i S input owing owes first));
+      rule = ap expected_by is ∙ (planned ∙ sym (ap (λ (b : Bool). rule_where b header catalog i S input) up.up
+          ∙ told_rule header catalog i S input owing owes first));
       next = subst (λ (s : Step). IfSome (record_of s) (CanBeNext catalog i S)) (sym is)
           (next_here catalog i S plan.planned.rec sizes_here follows_here);
       step = subst (λ (s : Step). IsStep catalog i (Some new) S (Given input) s) (sym is) plan_of;
       takes = subst (λ (s : Step). IfSome (record_of s) (λ rec. TakesMemory S.up (Given input))) (sym is)
           (takes_here plan.planned.rec (TakesMemory S.up (Given input)) (λ some.
           subst (λ (b : Bool). TakesMemory b (Given input)) (sym up.up)
-          (record_takes catalog i S.knows input (expected_of plan.planned) planned some)));
+          (record_takes header catalog i S.knows input (expected_of plan.planned) planned some)));
       sized = subst (λ (s : Step). IsSized catalog.sites (came_of s)) (sym is) (record {
         outcome = short;
         kept = tt;
@@ -113,10 +116,10 @@ plan_ready catalog i S old new input owing plan site_is catalog_is same_site sam
       framed = framed ∙ ap (λ (s : Step). map (λ (e : Send). frame_of catalog.sites e.1) (sends_of s)) (sym is);
     }
   where
-    planned : expected_of plan.planned ≡ input_rule catalog i S.knows input
+    planned : expected_of plan.planned ≡ input_rule header catalog i S.knows input
     planned =
-        subst (λ (k : SiteId). expected_of plan.planned ≡ input_rule catalog k S.knows input) site_is
-        (subst (λ (c : Catalog). expected_of plan.planned ≡ input_rule c (site_of old) S.knows input) catalog_is ruled)
+        subst (λ (k : SiteId). expected_of plan.planned ≡ input_rule header catalog k S.knows input) site_is
+        (subst (λ (c : Catalog). expected_of plan.planned ≡ input_rule header c (site_of old) S.knows input) catalog_is ruled)
 
     sizes_here : IfSome plan.planned.rec (IsRecordAmong catalog.sites)
     sizes_here = subst (λ (c : Catalog). IfSome plan.planned.rec (IsRecordAmong c.sites)) catalog_is sizes
@@ -128,21 +131,23 @@ plan_ready catalog i S old new input owing plan site_is catalog_is same_site sam
 
     plan_of : IsPlanOf new S.knows input plan
     plan_of = record {
+      header = header;
       knows = knows;
       rule =
-          subst (λ (k : SiteId). expected_of plan.planned ≡ input_rule (catalog_of new) k S.knows input) (sym same_site)
-          (subst (λ (c : Catalog). expected_of plan.planned ≡ input_rule c (site_of old) S.knows input) (sym same_catalog) ruled);
+          subst (λ (k : SiteId). expected_of plan.planned ≡ input_rule header (catalog_of new) k S.knows input) (sym same_site)
+          (subst (λ (c : Catalog). expected_of plan.planned ≡ input_rule header c (site_of old) S.knows input) (sym same_catalog) ruled);
       ready = made;
       sizes = subst (λ (c : Catalog). IfSome plan.planned.rec (IsRecordAmong c.sites)) (sym same_catalog) sizes;
     }
 
 -- the next epoch of a site that is down
-pub boot_ready : (tables new : Tables) (boxed : Box Tables) (S : Standing) (epoch : ℕ) (ready : Ready) → S.up ≡ false
+pub boot_ready : (header : Format) (tables new : Tables) (boxed : Box Tables) (S : Standing) (epoch : ℕ)
+    (ready : Ready) → S.up ≡ false
     → epoch ≡ S.knows.epoch + 1 → site_of new ≡ site_of tables → catalog_of new ≡ catalog_of tables
     → Stands new (recorded (catalog_of tables) (site_of tables) (Some (Boot epoch)) S.knows)
     → boxed.value ≡ new → step_in ready ≡ Rise boxed epoch → ready.frames.items ≡ []
-    → IsReadyFor (catalog_of tables) (site_of tables) None S Restart ready
-boot_ready tables new boxed S epoch ready down next site catalog stands same is framed =
+    → IsReadyFor header (catalog_of tables) (site_of tables) None S Restart ready
+boot_ready header tables new boxed S epoch ready down next site catalog stands same is framed =
     record {
       rule = ap expected_by is ∙ (ap (λ (n : ℕ). record { wrote = Some (Boot n); outcome = Taken; sends = [] }) next
           ∙ sym (ap (λ (up : Bool). restart_rule up S.knows) down));

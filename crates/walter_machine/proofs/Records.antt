@@ -5,7 +5,7 @@ use Rattle.std.proofs.lemmas.List.Elements.{All-push, All-nil}
 use Rattle.walter_alone.proofs.Followed.{follow_lost}
 use Rattle.walter_base.specs.declared.catalog.Catalog.{Catalog}
 use Rattle.walter_base.specs.declared.message.Record.{Record}
-use Rattle.walter_base.specs.declared.message.Record.TheVariants.{Boot, Own, Got, Seen, Prepared, Released, SlowBegin, SlowEnd, Marks}
+use Rattle.walter_base.specs.declared.message.Record.TheVariants.{Boot, Own, Got, Seen, Prepared, Released, SlowBegin, SlowEnd, Marks, Format as FormatRecord}
 use Rattle.walter_base.specs.declared.names.SiteId.{SiteId}
 use Rattle.walter_base.specs.Sizes.{CanBeRecorded}
 use Rattle.walter_machine.specs.States.{AreTold, CanBeNext}
@@ -30,6 +30,7 @@ recordable sites (Released from slow) among = among
 recordable sites (SlowBegin slow tx) among = among.1
 recordable sites (SlowEnd slow) among = among
 recordable sites (Marks durable visible) among = among
+recordable sites FormatRecord among = among
 
 -- what is left behind an event goes by its record alone
 pub lost_after : (catalog : Catalog) (i : SiteId) (K : Knowledge) (event : Event) (outcome : Outcome)
@@ -49,6 +50,7 @@ booted_behind catalog i K (Released from slow) follows booted = booted
 booted_behind catalog i K (SlowBegin slow tx) follows booted = booted
 booted_behind catalog i K (SlowEnd slow) follows booted = booted
 booted_behind catalog i K (Marks durable visible) follows booted = booted
+booted_behind catalog i K FormatRecord follows booted = booted
 
 module _ (catalog : Catalog) (i : SiteId) (S T : Standing) (all : AreTold catalog i S) where
   -- one more record stands behind them

@@ -3,6 +3,7 @@ use Rattle.std.proofs.Common.{◌≡◌, ◌∙◌, ◌<◌, ◌+◌, ◌∷◌,
 use Rattle.std.specs.Prelude.{IfSome, IsSome, is_some}
 use Rattle.std.proofs.lemmas.List.{length-append}
 use Rattle.walter_base.specs.declared.catalog.Catalog.{Catalog}
+use Rattle.walter_base.specs.declared.format.Format.{Format}
 use Rattle.walter_base.specs.declared.message.Record.{Record}
 use Rattle.walter_base.specs.declared.names.SiteId.{SiteId}
 use Rattle.walter_base.specs.declared.names.Tid.{Tid}
@@ -26,12 +27,12 @@ use Rattle.walter_rules.specs.declared.entry.Came.{Came}
 use Rattle.walter_rules.specs.declared.event.Event.{Event}
 use Rattle.walter_rules.specs.declared.event.Event.TheVariants.{Restart}
 use Rattle.walter_rules.specs.declared.event.Input.{Input}
-use Rattle.walter_rules.specs.declared.event.Input.TheVariants.{Call, Deliver, Advance, Tick}
+use Rattle.walter_rules.specs.declared.event.Input.TheVariants.{Call, Deliver, Advance, Tick, Upgrade}
 use Rattle.walter_rules.specs.declared.outcome.Outcome.{Outcome}
 use Rattle.walter_rules.specs.declared.outcome.Outcome.TheVariants.{Replied, Taken, Passed, Failed, Full, Memory, Down, Refused}
 use Rattle.walter_rules.specs.Calls.{Expected}
 use Rattle.walter_rules.specs.Knowledge.{Knowledge}
-use Rattle.walter_rules.specs.Layouts.{Layout, FitsIn, need_of, left_behind}
+use Rattle.walter_rules.specs.Layouts.{Layout, FitsIn, header_of, need_in, left_behind}
 use Rattle.walter_rules.specs.Learning.{after, lost, recorded}
 use Rattle.walter_rules.specs.Sessions.{Sessions, session_in}
 use Rattle.walter_rules.specs.Sending.{Send}
@@ -65,6 +66,7 @@ debt_so m S (Call client call) debt has room owes =
 debt_so m S (Deliver from number packet) debt has room owes = tt
 debt_so m S (Advance from) debt has room owes = tt
 debt_so m S Tick debt has room owes = tt
+debt_so m S Upgrade debt has room owes = tt
 
 -- ---- what came to nothing
 
@@ -184,13 +186,13 @@ settles_found m S found kept rec is is_found stands count counted =
 -- ---- the record found no place
 
 pub overflow_comes : (catalog : Catalog) (layout : Layout) (i : SiteId) (site : Option Tables) (S : Standing) (event : Event)
-    (ready : Ready) (need left : ℕ) → IsReadyFor catalog i site S event ready → IsSome (rec_in ready)
-    → IfSome (rec_in ready) (λ rec. (need ≡ need_of rec) × (left ≡ left_behind layout S) × (left < need))
+    (ready : Ready) (need left : ℕ) → IsReadyFor (header_of layout) catalog i site S event ready → IsSome (rec_in ready)
+    → IfSome (rec_in ready) (λ rec. (need ≡ need_in layout S rec) × (left ≡ left_behind layout S) × (left < need))
     → Comes catalog layout i S event (only (fullness event need left))
 overflow_comes catalog layout i site S event ready need left is some much = by (rec_in ready) refl some much
   where
     by : (o : Option Record) → rec_in ready ≡ o → IsSome o
-        → IfSome o (λ rec. (need ≡ need_of rec) × (left ≡ left_behind layout S) × (left < need))
+        → IfSome o (λ rec. (need ≡ need_in layout S rec) × (left ≡ left_behind layout S) × (left < need))
         → Comes catalog layout i S event (only (fullness event need left))
     by None none some much = absurd cc
     by (Some rec) here some much =
@@ -231,7 +233,8 @@ filled_standing old new S event came need left is has filled catalog id site fli
 -- ---- the record is kept
 
 pub keep_comes : (catalog : Catalog) (layout : Layout) (i : SiteId) (site : Option Tables) (S : Standing) (event : Event)
-    (ready : Ready) → IsReadyFor catalog i site S event ready → IfSome (rec_in ready) (FitsIn layout S)
+    (ready : Ready) → IsReadyFor (header_of layout) catalog i site S event ready
+    → IfSome (rec_in ready) (FitsIn layout S)
     → Comes catalog layout i S event (came_in ready)
 keep_comes catalog layout i site S event ready is fits =
     Comes.ruled (subst (λ (x : Expected). IfSome x.wrote (FitsIn layout S)) is.rule fits) (record {
@@ -289,9 +292,9 @@ counted_if : (m : Machine) (S : Standing) (wrote : Option Record) → IsCounted 
 counted_if m S None counted = tt
 counted_if m S (Some rec) counted = counted
 
-pub kept_standing : (old new : Machine) (S : Standing) (event : Event) (ready : Ready) (came : Came) (outcome : Outcome)
-    → came ≡ came_in ready → HasStanding old S → IsCounted old S (rec_in ready)
-    → IsReadyFor old.catalog old.id old.site S event ready → is_some old.lost ≡ false
+pub kept_standing : (header : Format) (old new : Machine) (S : Standing) (event : Event) (ready : Ready) (came : Came)
+    (outcome : Outcome) → came ≡ came_in ready → HasStanding old S → IsCounted old S (rec_in ready)
+    → IsReadyFor header old.catalog old.id old.site S event ready → is_some old.lost ≡ false
     → Steps old.catalog old.id S event (came_in ready) new.site new.lost
     → new.catalog ≡ old.catalog → new.id ≡ old.id
     → new.flight ≡ flight_behind (rec_in ready) old.flight → new.records ≡ records_behind (rec_in ready) old.records
@@ -299,7 +302,7 @@ pub kept_standing : (old new : Machine) (S : Standing) (event : Event) (ready : 
     → ((client : ℕ) → of_client client new.debts.entries
     ≡ told event outcome (λ c. of_client c old.debts.entries) client)
     → HasStanding new (stands_after old.catalog old.id S event came)
-kept_standing old new S event ready came outcome is has counted ready_for unlost steps catalog id flight records outcome_is forgiven =
+kept_standing header old new S event ready came outcome is has counted ready_for unlost steps catalog id flight records outcome_is forgiven =
     subst (λ (x : Came). HasStanding new (stands_after old.catalog old.id S event x)) (sym is) (record {
       state = steps.state;
       told = subst (λ (c : Catalog). AreTold c new.id T) (sym catalog)
@@ -323,7 +326,7 @@ kept_standing old new S event ready came outcome is has counted ready_for unlost
 
 pub fail_comes : (catalog : Catalog) (layout : Layout) (i : SiteId) (site : Option Tables) (S : Standing) (event : Event)
     (ready : Ready) (rec : Record) (came : Came) → rec_in ready ≡ Some rec → came ≡ fault_of event rec
-    → IsReadyFor catalog i site S event ready → IfSome (rec_in ready) (FitsIn layout S)
+    → IsReadyFor (header_of layout) catalog i site S event ready → IfSome (rec_in ready) (FitsIn layout S)
     → Comes catalog layout i S event came
 fail_comes catalog layout i site S event ready rec came here is ready_for fits =
     subst (λ (x : Came). Comes catalog layout i S event x) (sym is)
@@ -340,9 +343,10 @@ down_restarts catalog i (Some t) S event (Apply plan) none is some = absurd cc
 down_restarts catalog i site S event Fall none is some = absurd cc
 down_restarts catalog i site S event (Rise tables epoch) none is some = is.restart
 
-pub failed_standing_by : (old new : Machine) (S : Standing) (event : Event) (ready : Ready) (rec : Record) (came : Came)
-    (outcome : Outcome) → rec_in ready ≡ Some rec → came ≡ fault_of event rec → HasStanding old S
-    → IsCounted old S (rec_in ready) → IsReadyFor old.catalog old.id old.site S event ready → is_some old.lost ≡ false
+pub failed_standing_by : (header : Format) (old new : Machine) (S : Standing) (event : Event) (ready : Ready)
+    (rec : Record) (came : Came) (outcome : Outcome) → rec_in ready ≡ Some rec → came ≡ fault_of event rec
+    → HasStanding old S → IsCounted old S (rec_in ready)
+    → IsReadyFor header old.catalog old.id old.site S event ready → is_some old.lost ≡ false
     → IfSome old.site (IsOf old.catalog old.id) → outcome ≡ failure event rec
     → ((K : Knowledge) → IfSome old.site (λ t. Knows t K → sessions_lost new.lost
     ≡ (after (catalog_of t) (site_of t) K event outcome None).sessions))
@@ -350,7 +354,7 @@ pub failed_standing_by : (old new : Machine) (S : Standing) (event : Event) (rea
     → new.catalog ≡ old.catalog → new.id ≡ old.id → new.site ≡ None → new.flight ≡ rec_in ready
     → new.records ≡ old.records → new.debts ≡ old.debts
     → HasStanding new (stands_after old.catalog old.id S event came)
-failed_standing_by old new S event ready rec came outcome here is has counted ready_for unlost of outcome_is loses none catalog id site flight records debts =
+failed_standing_by header old new S event ready rec came outcome here is has counted ready_for unlost of outcome_is loses none catalog id site flight records debts =
     subst (λ (x : Came). HasStanding new (stands_after old.catalog old.id S event x)) (sym is) (record {
       state = subst (λ (t : Option Tables). IsState T t) (sym site) (failing_up old.catalog old.id S event rec has.told next);
       told = subst (λ (c : Catalog). AreTold c new.id T) (sym catalog)

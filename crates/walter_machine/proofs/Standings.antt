@@ -16,7 +16,7 @@ use Rattle.walter_rules.specs.declared.entry.Came.{Came}
 use Rattle.walter_rules.specs.declared.event.Event.{Event}
 use Rattle.walter_rules.specs.declared.event.Event.TheVariants.{Given, Stop, Restart}
 use Rattle.walter_rules.specs.declared.event.Input.{Input}
-use Rattle.walter_rules.specs.declared.event.Input.TheVariants.{Call, Deliver, Advance, Tick}
+use Rattle.walter_rules.specs.declared.event.Input.TheVariants.{Call, Deliver, Advance, Tick, Upgrade}
 use Rattle.walter_rules.specs.declared.outcome.Outcome.{Outcome}
 use Rattle.walter_rules.specs.declared.outcome.Outcome.TheVariants.{Taken}
 use Rattle.walter_rules.specs.Knowledge.{Knowledge}
@@ -191,6 +191,7 @@ failure_falls (Given (Call client call)) rec = tt
 failure_falls (Given (Deliver from number packet)) rec = tt
 failure_falls (Given (Advance from)) rec = tt
 failure_falls (Given Tick) rec = tt
+failure_falls (Given Upgrade) rec = tt
 failure_falls Stop rec = tt
 failure_falls Restart rec = tt
 
@@ -201,6 +202,7 @@ want_idle catalog i S (Given (Call client call)) = record { stays = refl; rests 
 want_idle catalog i S (Given (Deliver from number packet)) = record { stays = refl; rests = refl; knows = refl; flies = refl }
 want_idle catalog i S (Given (Advance from)) = record { stays = refl; rests = refl; knows = refl; flies = refl }
 want_idle catalog i S (Given Tick) = record { stays = refl; rests = refl; knows = refl; flies = refl }
+want_idle catalog i S (Given Upgrade) = record { stays = refl; rests = refl; knows = refl; flies = refl }
 want_idle catalog i S Stop = record { stays = refl; rests = refl; knows = refl; flies = refl }
 want_idle catalog i S Restart = record { stays = refl; rests = refl; knows = refl; flies = refl }
 
@@ -209,6 +211,7 @@ want_told (Given (Call c call)) gone client = refl
 want_told (Given (Deliver from number packet)) gone client = refl
 want_told (Given (Advance from)) gone client = refl
 want_told (Given Tick) gone client = refl
+want_told (Given Upgrade) gone client = refl
 want_told Stop gone client = refl
 want_told Restart gone client = refl
 
@@ -222,6 +225,7 @@ full_stays (Call client call) need left = refl
 full_stays (Deliver from number packet) need left = refl
 full_stays (Advance from) need left = refl
 full_stays Tick need left = refl
+full_stays Upgrade need left = refl
 
 full_knows : (catalog : Catalog) (i : SiteId) (K : Knowledge) (input : Input) (need left : ℕ)
     → after catalog i K (Given input) (fullness (Given input) need left) None ≡ K
@@ -229,6 +233,7 @@ full_knows catalog i K (Call client call) need left = refl
 full_knows catalog i K (Deliver from number packet) need left = refl
 full_knows catalog i K (Advance from) need left = refl
 full_knows catalog i K Tick need left = refl
+full_knows catalog i K Upgrade need left = refl
 
 full_told : (input : Input) (need left : ℕ) (gone : ℕ → Option Tid) (client : ℕ)
     → told (Given input) (fullness (Given input) need left) gone client ≡ gone client
@@ -236,6 +241,7 @@ full_told (Call c call) need left gone client = refl
 full_told (Deliver from number packet) need left gone client = refl
 full_told (Advance from) need left gone client = refl
 full_told Tick need left gone client = refl
+full_told Upgrade need left gone client = refl
 
 -- the site stands as before, and no record is in flight
 pub record IsFilled (catalog : Catalog) (i : SiteId) (site : Option Tables) (S T : Standing) : Type 0 where

@@ -3,7 +3,7 @@ use Rattle.std.proofs.Common.{◌≡◌, ◌<◌, inl, inr, ap, arith}
 use Rattle.std.specs.Coded.{codes}
 use Rattle.std.proofs.Props.{props as usual}
 use Rattle.walter_base.specs.declared.message.Record.{Record}
-use Rattle.walter_base.specs.declared.message.Record.TheVariants.{Boot, Own, Got, Seen, Prepared, Released, SlowBegin, SlowEnd, Marks}
+use Rattle.walter_base.specs.declared.message.Record.TheVariants.{Boot, Own, Got, Seen, Prepared, Released, SlowBegin, SlowEnd, Marks, Format as FormatRecord}
 use Rattle.walter_base.specs.declared.names.ObjId.{ObjId}
 use Rattle.walter_base.specs.Names.{IsBefore}
 use Rattle.walter_base.specs.Sizes.{CanBeRecorded}
@@ -29,5 +29,6 @@ CanBeRecorded-prop (Released from slow) = hlevel usual
 CanBeRecorded-prop (SlowBegin slow tx) = hlevel (usual, HasShortValue-prop)
 CanBeRecorded-prop (SlowEnd slow) = hlevel usual
 CanBeRecorded-prop (Marks durable visible) = hlevel usual
+CanBeRecorded-prop FormatRecord = hlevel usual
 
 pub ruleset props = (usual, codes, CanBeRecorded-prop)

@@ -2,6 +2,7 @@
 use Rattle.std.specs.Prelude.{◌≡◌, ◌+◌, ℕ, false, List, [], Option, Some, None, IfSome}
 use Rattle.std.specs.Global.{Box}
 use Rattle.walter_base.specs.declared.catalog.Catalog.{Catalog}
+use Rattle.walter_base.specs.declared.format.Format.{Format}
 use Rattle.walter_base.specs.declared.message.Record.{Record}
 use Rattle.walter_base.specs.declared.message.Record.TheVariants.{Boot}
 use Rattle.walter_base.specs.declared.names.SiteId.{SiteId}
@@ -89,10 +90,12 @@ pub record IsIdle (catalog : Catalog) (i : SiteId) (S : Standing) (event : Event
   pub knows : after catalog i S.knows event outcome None ≡ S.knows
   pub flies : flight_after None None outcome S.flight ≡ S.flight
 
--- the plan of the rule for an input, which the tables of a site that knows this have made ready for
+-- the plan of the rule for an input, over a journal with some header, which the tables of a site that knows this have
+-- made ready for
 pub record IsPlanOf (tables : Tables) (K : Knowledge) (input : Input) (plan : Plan) : Type 0 where
+  pub header : Format
   pub knows : Knows tables K
-  pub rule : expected_of plan.planned ≡ input_rule (catalog_of tables) (site_of tables) K input
+  pub rule : expected_of plan.planned ≡ input_rule header (catalog_of tables) (site_of tables) K input
   pub ready : IsReady tables input plan
   pub sizes : IfSome plan.planned.rec (IsRecordAmong (catalog_of tables).sites)
 

@@ -1,11 +1,12 @@
 //! A site apart from where its records lie.
 ghost use Rattle.std.specs.Prelude.{◌≡◌, ◌≢◌, ◌≤◌, ◌<◌, ◌+◌, ◌^◌, ℕ, None, Some, false, true, is_some, vec_len, IfSome, IfNone, IsSome, IfOk, OnErr, OnOk};
 ghost use Rattle.walter_base.specs.contracts.catalog.Catalog as coded_catalog;
+ghost use Rattle.walter_base.specs.declared.format.Format.{Format as Header};
 ghost use Rattle.walter_base.specs.Sizes.{CanBeRecorded};
 ghost use Rattle.walter_base.specs.Vectors.{most_sites};
 ghost use Rattle.walter_machine.specs.Props.{props};
 ghost use Rattle.walter_machine.specs.States.{IsOf, IsRoom};
-ghost use Rattle.walter_rules.specs.Layouts.{Layout, FitsIn, left_behind, need_of};
+ghost use Rattle.walter_rules.specs.Layouts.{Layout, FitsIn, header_of, left_behind, need_in};
 
 use crate::debts::{debt_of, forgive, owe_lost};
 use crate::following::{count_in, follow, rec_of};
@@ -17,7 +18,7 @@ use crate::ready::{Kind, Ready};
 use indexmap::IndexMap;
 use std::alloc::Global;
 use std::mem;
-use walter_base::{Catalog, MaybeRecord, Mem, Record, RecordPlace, Sends, SiteId, Tid};
+use walter_base::{Catalog, Format, MaybeRecord, Mem, Record, RecordPlace, Sends, SiteId, Tid};
 use walter_packet::Framed;
 use walter_rules::{Came, Event, Outcome};
 use walter_session::Sessions;
@@ -121,6 +122,17 @@ impl Machine {
         self.flight.as_ref()
     }
 
+    /// The format that the records of a site that is up tell: the second behind the record that says so. The one in
+    /// force is the later one of this and the header's.
+    pub fn format(&self) -> Format
+        ensures { (S : Standing) → HasStanding self.now S → S.up ≡ true → result ≡ S.knows.format }
+    {
+        match &self.site {
+            Some(site) => site.format(),
+            None => Format::First,
+        }
+    }
+
     /// The least peer whose next commit can be committed here; none where the site is down.
     pub fn least_enabled(&self) -> Option<SiteId>
         ensures { (S : Standing) → HasStanding self.now S → S.up ≡ true
@@ -143,14 +155,15 @@ impl Machine {
         owe_lost(&mut self.debts, &mut self.lost)
     }
 
-    /// What is to come of an event at a site that is up, with the record that is to be stable first and the frames of
-    /// what is put out. At a tick the rows are folded first. How a site comes up that is down `Ready::boot` says.
-    pub fn prepare(&mut self, event: &Event, ready: &mut Ready) -> Mem<()>
+    /// What is to come of an event at a site that is up, over a journal whose header names this format, with the record
+    /// that is to be stable first and the frames of what is put out. At a tick the rows are folded first. How a site
+    /// comes up that is down `Ready::boot` says.
+    pub fn prepare(&mut self, event: &Event, header: Format, ready: &mut Ready) -> Mem<()>
         requires sized { IsSizedEvent (catalog_in self.old).sites event.now }
         requires up { is_up self.old ≡ true }
         ensures ready { (S : Standing) → HasStanding self.old S
             → OnOk result
-            (IsReadyFor (catalog_in self.old) (site_in self.old) (tables_in self.new) S event.now ready.new) }
+            (IsReadyFor header (catalog_in self.old) (site_in self.old) (tables_in self.new) S event.now ready.new) }
         ensures anyway { OnOk result
             (IsReadyAnyway (catalog_in self.old) (site_in self.old) (tables_in self.new) event.now ready.new) }
         ensures countable { OnOk result (IsCountable self.new ready.new) }
@@ -170,7 +183,7 @@ impl Machine {
             Event::Given(input) => {
                 let owed = debt_of(&self.debts, input);
                 let sites = self.catalog.sites;
-                prepare_input(alloc, site, owed, sites, self.records, input, ready)
+                prepare_input(alloc, site, owed, sites, self.records, input, header, ready)
             }
             Event::Stop => {
                 make_fall(alloc, ready);
@@ -190,8 +203,8 @@ impl Machine {
         requires stays { event.now ≢ happens.Restart }
         requires alone { IsOutcomeAlone came.old }
         ensures alone { IsOutcomeAlone came.new }
-        ensures ruled { (S : Standing) → S.up ≡ false
-            → came.new.outcome ≡ (rule (catalog_in self.now) (site_in self.now) S event.now).outcome }
+        ensures ruled { (header : Header) (S : Standing) → S.up ≡ false
+            → came.new.outcome ≡ (rule header (catalog_in self.now) (site_in self.now) S event.now).outcome }
         ensures sized { IsSized (catalog_in self.now).sites came.new }
         ensures fine { is_faulty came.new.outcome ≡ false }
         ensures comes { (layout : Layout) (S : Standing) → HasStanding self.now S
@@ -235,11 +248,13 @@ impl Machine {
         ensures came { came.new ≡ came_in ready.old }
         ensures framed { result.items ≡ ready.old.frames.items }
         ensures comes { (layout : Layout) (S : Standing)
-            → IsReadyFor (catalog_in self.old) (site_in self.old) (tables_in self.old) S event.now ready.old
+            → IsReadyFor (header_of layout) (catalog_in self.old) (site_in self.old) (tables_in self.old) S event.now
+            ready.old
             → IfSome (rec_in ready.old) (FitsIn layout S)
             → Comes (catalog_in self.old) layout (site_in self.old) S event.now came.new }
-        ensures stands { (S : Standing) → HasStanding self.old S → IsCounted self.old S (rec_in ready.old)
-            → IsReadyFor (catalog_in self.old) (site_in self.old) (tables_in self.old) S event.now ready.old
+        ensures stands { (header : Header) (S : Standing) → HasStanding self.old S
+            → IsCounted self.old S (rec_in ready.old)
+            → IsReadyFor header (catalog_in self.old) (site_in self.old) (tables_in self.old) S event.now ready.old
             → HasStanding self.new (stands_after (catalog_in self.old) (site_in self.old) S event.now came.new) }
         ensures up { is_up self.new ≡ up_after event.now came.new.outcome (is_up self.old) }
         ensures tick { event.now ≡ happens.Given inputs.Tick → tables_in self.new ≡ tables_in self.old }
@@ -277,11 +292,13 @@ impl Machine {
         ensures came { IfSome (rec_in ready.old) (λ rec.
             came.new ≡ record (only (failure event.now rec)) { flight = Some rec }) }
         ensures comes { (layout : Layout) (S : Standing)
-            → IsReadyFor (catalog_in self.old) (site_in self.old) (tables_in self.old) S event.now ready.old
+            → IsReadyFor (header_of layout) (catalog_in self.old) (site_in self.old) (tables_in self.old) S event.now
+            ready.old
             → IfSome (rec_in ready.old) (FitsIn layout S)
             → Comes (catalog_in self.old) layout (site_in self.old) S event.now came.new }
-        ensures stands { (S : Standing) → HasStanding self.old S → IsCounted self.old S (rec_in ready.old)
-            → IsReadyFor (catalog_in self.old) (site_in self.old) (tables_in self.old) S event.now ready.old
+        ensures stands { (header : Header) (S : Standing) → HasStanding self.old S
+            → IsCounted self.old S (rec_in ready.old)
+            → IsReadyFor header (catalog_in self.old) (site_in self.old) (tables_in self.old) S event.now ready.old
             → HasStanding self.new (stands_after (catalog_in self.old) (site_in self.old) S event.now came.new) }
         ensures down { tables_in self.new ≡ None }
         ensures same { IsSameSite self.old self.new }
@@ -304,11 +321,13 @@ impl Machine {
         requires alone { IsOutcomeAlone came.old }
         ensures came { came.new ≡ only (fullness event.now need left) }
         ensures comes { (layout : Layout) (S : Standing)
-            → IsReadyFor (catalog_in self.old) (site_in self.old) (tables_in self.old) S event.now ready.now
-            → IfSome (rec_in ready.now) (λ rec. (need ≡ need_of rec) × (left ≡ left_behind layout S) × (left < need))
+            → IsReadyFor (header_of layout) (catalog_in self.old) (site_in self.old) (tables_in self.old) S event.now
+            ready.now
+            → IfSome (rec_in ready.now)
+            (λ rec. (need ≡ need_in layout S rec) × (left ≡ left_behind layout S) × (left < need))
             → Comes (catalog_in self.old) layout (site_in self.old) S event.now came.new }
-        ensures stands { (S : Standing) → HasStanding self.old S
-            → IsReadyFor (catalog_in self.old) (site_in self.old) (tables_in self.old) S event.now ready.now
+        ensures stands { (header : Header) (S : Standing) → HasStanding self.old S
+            → IsReadyFor header (catalog_in self.old) (site_in self.old) (tables_in self.old) S event.now ready.now
             → HasStanding self.new (stands_after (catalog_in self.old) (site_in self.old) S event.now came.new) }
         ensures tables { tables_in self.new ≡ tables_in self.old }
         ensures same { IsSameSite self.old self.new }

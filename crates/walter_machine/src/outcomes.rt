@@ -1,6 +1,7 @@
 //! What an event comes to where it isn't done, and what a client is told in the place of an answer.
 ghost use Rattle.std.specs.Prelude.{◌≡◌, ◌≢◌, false};
 ghost use Rattle.walter_base.specs.declared.catalog.Catalog.{Catalog};
+ghost use Rattle.walter_base.specs.declared.format.Format.{Format};
 ghost use Rattle.walter_base.specs.declared.names.SiteId.{SiteId};
 ghost use Rattle.walter_machine.specs.Debts.{gone_first};
 ghost use Rattle.walter_rules.specs.declared.event.Event.TheVariants as happens;
@@ -48,8 +49,8 @@ pub fn fullness(event: &Event, need: u64, left: u64) -> Outcome
 /// What an event comes to at a site that is down and isn't to restart.
 pub fn outcome_of_down(event: &Event) -> Outcome
     requires { event.now ≢ happens.Restart }
-    ensures { (catalog : Catalog) (i : SiteId) (S : Standing) → S.up ≡ false
-        → result ≡ (rule catalog i S event.now).outcome }
+    ensures { (header : Format) (catalog : Catalog) (i : SiteId) (S : Standing) → S.up ≡ false
+        → result ≡ (rule header catalog i S event.now).outcome }
 {
     match event {
         Event::Given(input) => outcome_at_rest(input),

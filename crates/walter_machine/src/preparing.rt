@@ -20,7 +20,7 @@ ghost use Rattle.walter_tables.specs.Sites.{site_of, catalog_of};
 use crate::outcomes::gone_first;
 use crate::ready::{Kind, Ready};
 use std::alloc::Global;
-use walter_base::{MaybeRecord, Mem, NoMemory, Refusal, Reply, Sends, Tid};
+use walter_base::{Format, MaybeRecord, Mem, NoMemory, Refusal, Reply, Sends, Tid};
 use walter_packet::Framed;
 use walter_rules::{Input, Outcome};
 use walter_site::Site;
@@ -46,8 +46,8 @@ pub fn make_fall(alloc: Global, ready: &mut Ready)
     ready.frames = Vec::new(alloc);
 }
 
-/// What an input comes to at a site that has so many records. Its client is owed the news of this transaction, or of
-/// none.
+/// What an input comes to at a site that has so many records, in a journal whose header names this format. Its client
+/// is owed the news of this transaction, or of none.
 pub fn prepare_input(
     alloc: Global,
     site: &mut Site,
@@ -55,13 +55,15 @@ pub fn prepare_input(
     sites: u8,
     records: u64,
     input: &Input,
+    header: Format,
     ready: &mut Ready,
 ) -> Mem<()>
     requires most { sites ≤ most_sites }
     requires among { (catalog_of site.old).sites ≡ sites }
     requires sized { IsSizedInput sites input.now }
     ensures ready { (S : Standing) → IsUp S site.old → IsDebtOf S.gone input.now owed → OnOk result
-        (IsReadyFor (catalog_of site.old) (site_of site.old) (Some site.new) S (Happens.Given input.now) ready.new) }
+        (IsReadyFor header (catalog_of site.old) (site_of site.old) (Some site.new) S (Happens.Given input.now)
+        ready.new) }
     ensures free { OnErr result (TakesMemory true (Happens.Given input.now)) }
     ensures state { (S : Standing) → IsUp S site.old → IsUp S site.new }
     ensures site { site_of site.new ≡ site_of site.old }
@@ -79,7 +81,7 @@ pub fn prepare_input(
         }
         None => {
             tidy_at(site, input);
-            plan(alloc, site, sites, records, input, ready)
+            plan(alloc, site, sites, records, input, header, ready)
         }
     }
 }
@@ -103,6 +105,7 @@ fn plan(
     sites: u8,
     records: u64,
     input: &Input,
+    header: Format,
     ready: &mut Ready,
 ) -> Mem<()>
     requires most { sites ≤ most_sites }
@@ -110,7 +113,8 @@ fn plan(
     requires sized { IsSizedInput sites input.now }
     ensures ready { (S : Standing) (owed : Option Named) → IsUp S site.old → IsDebtOf S.gone input.now owed
         → gone_first owed input.now ≡ None → OnOk result
-        (IsReadyFor (catalog_of site.old) (site_of site.old) (Some site.new) S (Happens.Given input.now) ready.new) }
+        (IsReadyFor header (catalog_of site.old) (site_of site.old) (Some site.new) S (Happens.Given input.now)
+        ready.new) }
     ensures free { OnErr result (TakesMemory true (Happens.Given input.now)) }
     ensures state { (S : Standing) → IsUp S site.old → IsUp S site.new }
     ensures site { site_of site.new ≡ site_of site.old }
@@ -121,7 +125,7 @@ fn plan(
 {
     // Where memory runs out, no record is ready.
     make_fall(alloc, ready);
-    site.plan(input, &mut ready.plan)?;
+    site.plan(input, header, &mut ready.plan)?;
     ready.frames = frame_all(alloc, &ready.plan.planned.sends, sites)?;
     ready.rec = copy_any(alloc, &ready.plan.planned.rec, records)?;
     ready.kind = Kind::Apply;

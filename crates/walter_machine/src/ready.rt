@@ -1,5 +1,6 @@
 //! What is to come of an event, with all that it takes.
 ghost use Rattle.std.specs.Prelude.{◌≡◌, ◌+◌, Some, None, false, IfOk, IfErr, IfSome, IfNone, Err};
+ghost use Rattle.walter_base.specs.declared.format.Format.{Format};
 ghost use Rattle.walter_machine.specs.Steps.{record_of, step_by};
 ghost use Rattle.walter_rules.specs.Knowledge.{Knowledge};
 ghost use Rattle.walter_rules.specs.Standing.{Standing};
@@ -67,8 +68,8 @@ impl Ready {
     /// The next epoch of a site that is down, whose records tell these tables.
     pub fn boot(alloc: Global, mut tables: Tables) -> Result<Ready, BootFault>
         requires told { (K : Knowledge) × Stands tables K }
-        ensures ready { (S : Standing) → S.up ≡ false → Stands tables S.knows
-            → IfOk result (IsReadyFor (catalog_of tables) (site_of tables) None S event.Restart) }
+        ensures ready { (header : Format) (S : Standing) → S.up ≡ false → Stands tables S.knows
+            → IfOk result (IsReadyFor header (catalog_of tables) (site_of tables) None S event.Restart) }
         ensures anyway { IfOk result (IsReadyAnyway (catalog_of tables) (site_of tables) None event.Restart) }
         ensures boots { IfOk result (λ r. rec_in r ≡ Some (Record.Boot ((values_of tables).epoch + 1))) }
         ensures last { IfErr result (λ why. why ≡ BootFault.LastEpoch → (values_of tables).epoch ≡ 4294967295) }

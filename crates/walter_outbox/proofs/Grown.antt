@@ -15,7 +15,7 @@ use Rattle.walter_rules.specs.declared.entry.Came.{Came}
 use Rattle.walter_rules.specs.declared.entry.Entry.{Entry}
 use Rattle.walter_rules.specs.declared.event.Event.{Event}
 use Rattle.walter_rules.specs.Knowledge.{site_at}
-use Rattle.walter_rules.specs.Layouts.{Layout}
+use Rattle.walter_rules.specs.Layouts.{Layout, header_of}
 use Rattle.walter_rules.specs.Merges.{sent_to, put_out_to}
 use Rattle.walter_rules.specs.Rule.{rule}
 use Rattle.walter_rules.specs.Sending.{Send}
@@ -146,7 +146,7 @@ pub comes_out : (catalog : Catalog) (layout : Layout) (i : SiteId) (S : Standing
     (sends : List Send) (dropped : ℕ) → came.dropped ≡ 0 → IsPutOut S.carried came.sends sends dropped
     → Comes catalog layout i S event came → Comes catalog layout i S event (with_sends sends dropped came)
 comes_out catalog layout i S event came sends dropped none out (ruled fits is) =
-    let same = same_out S.carried (rule catalog i S event).sends came.sends came.dropped none is.sends in
+    let same = same_out S.carried (rule (header_of layout) catalog i S event).sends came.sends came.dropped none is.sends in
     ruled fits (record {
       outcome = is.outcome;
       wrote = is.wrote;
@@ -166,9 +166,10 @@ comes_out catalog layout i S event came sends dropped none out (full rec brings 
 pub drops_where_full : (catalog : Catalog) (layout : Layout) (i : SiteId) (S : Standing) (event : Event) (came : Came)
     (met : ℕ → ℕ) (sends : List Send) (dropped : ℕ) → came.dropped ≡ 0
     → IsPutWhereFree met S.carried came.sends sends dropped → Comes catalog layout i S event came
-    → ((sends ≡ []) × (dropped ≡ 0)) ⊎ IsPutWhereFree met S.carried (rule catalog i S event).sends sends dropped
+    → ((sends ≡ []) × (dropped ≡ 0))
+    ⊎ IsPutWhereFree met S.carried (rule (header_of layout) catalog i S event).sends sends dropped
 drops_where_full catalog layout i S event came met sends dropped none out (ruled fits is) =
-    let same = same_out S.carried (rule catalog i S event).sends came.sends came.dropped none is.sends in
+    let same = same_out S.carried (rule (header_of layout) catalog i S event).sends came.sends came.dropped none is.sends in
     inr (subst (λ (l : List Send). IsPutWhereFree met S.carried l sends dropped) same out)
 drops_where_full catalog layout i S event came met sends dropped none out (met_fault rec brings fits only) =
     inl (none_out S.carried came.sends sends dropped only.sends (out_as_ruled met S.carried came.sends sends dropped out))

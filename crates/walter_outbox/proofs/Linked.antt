@@ -18,7 +18,7 @@ use Rattle.walter_psi.proofs.Lists.{contains_at, Contains-flat_map_from}
 use Rattle.walter_rules.specs.declared.entry.Entry.{Entry}
 use Rattle.walter_rules.specs.declared.event.Event.{Event}
 use Rattle.walter_rules.specs.declared.event.Event.TheVariants.{Given, Stop, Restart}
-use Rattle.walter_rules.specs.declared.event.Input.TheVariants.{Call, Deliver, Advance, Tick}
+use Rattle.walter_rules.specs.declared.event.Input.TheVariants.{Call, Deliver, Advance, Tick, Upgrade}
 use Rattle.walter_rules.specs.Knowledge.{site_at}
 use Rattle.walter_rules.specs.Merges.{Stamped, sent_to, put_out_to, trail_of, IsLinked, AreLinked}
 use Rattle.walter_rules.specs.Sending.{Send}
@@ -53,6 +53,7 @@ next_stays i ins more grows (Given (Deliver j number packet)) last stamp is = re
 }
 next_stays i ins more grows (Given (Advance j)) last stamp is = is
 next_stays i ins more grows (Given Tick) last stamp is = is
+next_stays i ins more grows (Given Upgrade) last stamp is = is
 next_stays i ins more grows Stop last stamp is = is
 next_stays i ins more grows Restart last stamp is = is
 

@@ -11,7 +11,7 @@ use Rattle.walter_packet.specs.Framed.{frame_of, IsFramed}
 use Rattle.walter_rules.specs.declared.entry.Entry.{Entry}
 use Rattle.walter_rules.specs.declared.event.Event.{Event}
 use Rattle.walter_rules.specs.declared.event.Event.TheVariants.{Given, Stop, Restart}
-use Rattle.walter_rules.specs.declared.event.Input.TheVariants.{Call, Deliver, Advance, Tick}
+use Rattle.walter_rules.specs.declared.event.Input.TheVariants.{Call, Deliver, Advance, Tick, Upgrade}
 use Rattle.walter_rules.specs.Knowledge.{site_at}
 use Rattle.walter_rules.specs.Merges.{Stamped, put_out_to}
 use Rattle.walter_rules.specs.Sending.{Send}
@@ -123,6 +123,7 @@ IsNext i ins (Given (Call client call)) clock stamp = stamp ≡ clock + 1
 IsNext i ins (Given (Deliver j number packet)) clock stamp = IsArrival i ins j number packet clock stamp
 IsNext i ins (Given (Advance j)) clock stamp = stamp ≡ clock + 1
 IsNext i ins (Given Tick) clock stamp = stamp ≡ clock + 1
+IsNext i ins (Given Upgrade) clock stamp = stamp ≡ clock + 1
 IsNext i ins Stop clock stamp = stamp ≡ clock + 1
 IsNext i ins Restart clock stamp = stamp ≡ clock + 1
 

@@ -9,7 +9,7 @@ use Rattle.walter_base.specs.declared.packet.Packet.{Packet}
 use Rattle.walter_site.specs.Plans.{IsFor}
 use Rattle.walter_rules.specs.declared.event.Event.TheVariants.{Given}
 use Rattle.walter_rules.specs.declared.event.Input.{Input}
-use Rattle.walter_rules.specs.declared.event.Input.TheVariants.{Call, Deliver, Advance, Tick}
+use Rattle.walter_rules.specs.declared.event.Input.TheVariants.{Call, Deliver, Advance, Tick, Upgrade}
 use Rattle.walter_rules.specs.declared.outcome.Outcome.{Outcome}
 use Rattle.walter_rules.specs.declared.outcome.Outcome.TheVariants.{Replied, Taken, Passed, Failed, Full, Memory, Down, Refused}
 use Rattle.walter_rules.specs.Knowledge.{Knowledge}
@@ -68,8 +68,19 @@ module _ (catalog : Catalog) (wrote : Option Record) (K : Knowledge) where
   tick_left Down for = refl
   tick_left Refused for = refl
 
+  upgrade_left : (outcome : Outcome) → IsFor Upgrade outcome → Leaves Upgrade outcome
+  upgrade_left (Replied reply) for = absurd for
+  upgrade_left Taken for = refl
+  upgrade_left Passed for = refl
+  upgrade_left Failed for = refl
+  upgrade_left (Full need left) for = refl
+  upgrade_left Memory for = refl
+  upgrade_left Down for = refl
+  upgrade_left Refused for = refl
+
   pub all_left : (input : Input) (outcome : Outcome) → IsFor input outcome → IsIdle input outcome → Leaves input outcome
   all_left (Call client call) outcome for idle = call_left client call outcome idle
   all_left (Deliver from number packet) outcome for idle = packet_left from number packet outcome for idle
   all_left (Advance from) outcome for idle = advance_left from outcome for
   all_left Tick outcome for idle = tick_left outcome for
+  all_left Upgrade outcome for idle = upgrade_left outcome for

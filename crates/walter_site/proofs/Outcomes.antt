@@ -4,6 +4,8 @@ use Rattle.std.specs.FinMap.{get}
 use Rattle.std.specs.List.{list_all}
 use Rattle.walter_base.specs.declared.catalog.Catalog.{Catalog}
 use Rattle.walter_base.specs.declared.containers.Container.{Container}
+use Rattle.walter_base.specs.declared.format.Format.{Format}
+use Rattle.walter_base.specs.declared.format.Format.TheVariants.{First, Second}
 use Rattle.walter_base.specs.declared.message.BadFrame.{BadFrame}
 use Rattle.walter_base.specs.declared.message.Refusal.TheVariants.{NotIssued}
 use Rattle.walter_base.specs.declared.message.Reply.TheVariants.{Count, Level}
@@ -26,14 +28,15 @@ use Rattle.walter_site.specs.Members.{input_rule}
 use Rattle.walter_site.specs.Plans.{IsNoReply, IsFor, TakesRoomIn}
 use Rattle.walter_rules.specs.declared.event.Event.TheVariants.{Given}
 use Rattle.walter_rules.specs.declared.event.Input.{Input}
-use Rattle.walter_rules.specs.declared.event.Input.TheVariants.{Call, Deliver, Advance, Tick}
+use Rattle.walter_rules.specs.declared.event.Input.TheVariants.{Call, Deliver, Advance, Tick, Upgrade}
 use Rattle.walter_rules.specs.declared.outcome.Outcome.{Outcome}
 use Rattle.walter_rules.specs.Calls.{Expected, answers, refuses, call_rule, read_updates, if_cset, if_counted, is_issued, level_of, open_in, with_open}
 use Rattle.walter_rules.specs.Conflicts.{first_conflict}
 use Rattle.walter_rules.specs.Deliveries.{is_peer, accepts, if_accepted, is_news, if_acknowledged, if_shown, if_greater, prepares, prepares_by, if_lockable, commits_if_all, if_missing, votes, if_asked, votes_by, releases, confirms, packet_rule, if_peer, is_enabled, advances}
 use Rattle.walter_rules.specs.Declarations.{are_lockable}
 use Rattle.walter_rules.specs.Knowledge.{Knowledge, session_of}
-use Rattle.walter_rules.specs.Rule.{MayWant}
+use Rattle.walter_rules.specs.Layouts.{in_force}
+use Rattle.walter_rules.specs.Rule.{MayWant, upgrade_rule}
 use Rattle.walter_rules.specs.Sessions.{Session}
 use Rattle.walter_rules.specs.Slow.{Slow, Unused, Undecided, Dropped, Decided, Part, Free, Locked, Over, has_site}
 use Rattle.walter_rules.specs.Trails.{TakesMemory}
@@ -134,13 +137,18 @@ module _ (catalog : Catalog) (i : SiteId) (K : Knowledge) where
   advances_plain true j = tt
   advances_plain false j = tt
 
+  upgrade_plain : (format : Format) → IsNoReply (upgrade_rule format).outcome
+  upgrade_plain First = tt
+  upgrade_plain Second = tt
+
   -- a call alone is replied to
-  pub rule_for : (input : Input) → IsFor input (input_rule catalog i K input).outcome
-  rule_for (Call client call) = tt
-  rule_for (Deliver from number packet) =
+  pub rule_for : (header : Format) (input : Input) → IsFor input (input_rule header catalog i K input).outcome
+  rule_for header (Call client call) = tt
+  rule_for header (Deliver from number packet) =
       peer_plain (is_peer catalog i from) (packet_rule catalog i K from packet) (packet_plain from packet)
-  rule_for (Advance from) = advances_plain (is_peer catalog i from && is_enabled K from) from
-  rule_for Tick = tt
+  rule_for header (Advance from) = advances_plain (is_peer catalog i from && is_enabled K from) from
+  rule_for header Tick = tt
+  rule_for header Upgrade = upgrade_plain (in_force header K.format)
 
   -- an outcome of which nothing takes room
   abbrev IsSmall : Outcome → Type 0
@@ -187,9 +195,10 @@ module _ (catalog : Catalog) (i : SiteId) (K : Knowledge) where
       (λ call client room. room) (λ call client room. room)) (Ok (LevelAsked tid)) client room
 
   -- an answer that takes room is to a call that may want memory
-  pub rule_wants_room : (input : Input) → TakesRoomIn input (input_rule catalog i K input).outcome
-      → TakesMemory true (Given input)
-  rule_wants_room (Call client call) room = call_wants client call room
-  rule_wants_room (Deliver from number packet) room = tt
-  rule_wants_room (Advance from) room = tt
-  rule_wants_room Tick room = tt
+  pub rule_wants_room : (header : Format) (input : Input)
+      → TakesRoomIn input (input_rule header catalog i K input).outcome → TakesMemory true (Given input)
+  rule_wants_room header (Call client call) room = call_wants client call room
+  rule_wants_room header (Deliver from number packet) room = tt
+  rule_wants_room header (Advance from) room = tt
+  rule_wants_room header Tick room = tt
+  rule_wants_room header Upgrade room = tt

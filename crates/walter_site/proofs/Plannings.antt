@@ -1,6 +1,7 @@
 -- What holds of a plan that is the rule's.
 use Rattle.std.proofs.Common.{◌≡◌, ℕ, true, Option, None, Result, Ok, Err, OnErr, All, IfSome, IsSome, ap, sym, ◌∙◌, subst}
 use Rattle.walter_base.specs.declared.catalog.Catalog.{Catalog}
+use Rattle.walter_base.specs.declared.format.Format.{Format}
 use Rattle.walter_base.specs.declared.message.BadFrame.{BadFrame}
 use Rattle.walter_base.specs.declared.message.Record.{Record}
 use Rattle.walter_base.specs.declared.message.Request.{Request}
@@ -10,7 +11,7 @@ use Rattle.walter_site.specs.Members.{Knows, IsStarted, input_rule, IsSizedPacke
 use Rattle.walter_site.specs.Plans.{CanBeAnsweredAny, CanTakeIn, TakesRoomIn, IsNewsIn, IsFromWithin, IsFor}
 use Rattle.walter_rules.specs.declared.event.Event.TheVariants.{Given}
 use Rattle.walter_rules.specs.declared.event.Input.{Input}
-use Rattle.walter_rules.specs.declared.event.Input.TheVariants.{Call, Deliver, Advance, Tick}
+use Rattle.walter_rules.specs.declared.event.Input.TheVariants.{Call, Deliver, Advance, Tick, Upgrade}
 use Rattle.walter_rules.specs.declared.outcome.Outcome.{Outcome}
 use Rattle.walter_rules.specs.declared.outcome.Outcome.TheVariants.{Replied, Taken, Passed, Failed, Full, Memory, Down, Refused}
 use Rattle.walter_rules.specs.Calls.{Expected, call_rule}
@@ -34,68 +35,74 @@ on_err P (Ok x) holds = tt
 on_err P (Err e) holds = holds
 
 -- a tick has no record
-pub tick_wrote : (t : Tables) (K : Knowledge) (input : Input) (p : Planned)
-    → expected_of p ≡ input_rule (catalog_of t) (site_of t) K input → input ≡ Tick → p.rec ≡ None
-tick_wrote t K input p ruled tick = ap (λ e. e.wrote) (ruled ∙ ap (input_rule (catalog_of t) (site_of t) K) tick)
+pub tick_wrote : (header : Format) (t : Tables) (K : Knowledge) (input : Input) (p : Planned)
+    → expected_of p ≡ input_rule header (catalog_of t) (site_of t) K input → input ≡ Tick → p.rec ≡ None
+tick_wrote header t K input p ruled tick =
+    ap (λ e. e.wrote) (ruled ∙ ap (input_rule header (catalog_of t) (site_of t) K) tick)
 
-module _ (t : Tables) (K : Knowledge) (S : Knows t K) (input : Input) (p : Planned)
-    (ruled : expected_of p ≡ input_rule (catalog_of t) (site_of t) K input) where
+module _ (header : Format) (t : Tables) (K : Knowledge) (S : Knows t K) (input : Input) (p : Planned)
+    (ruled : expected_of p ≡ input_rule header (catalog_of t) (site_of t) K input) where
   -- what holds of what the rule expects holds of the plan
-  by_rule : (P : Expected → Type 0) → P (input_rule (catalog_of t) (site_of t) K input) → P (expected_of p)
+  by_rule : (P : Expected → Type 0) → P (input_rule header (catalog_of t) (site_of t) K input) → P (expected_of p)
   by_rule P holds = subst P (sym ruled) holds
 
   pub plan_follows : IfSome p.rec (CanFollow (catalog_of t) (site_of t) K)
   plan_follows =
       by_rule (λ e. IfSome e.wrote (CanFollow (catalog_of t) (site_of t) K))
-      (rule_follows (catalog_of t) (site_of t) K (sound_at t K S.stands) (open_at t K S.stands) S.started (most_at t) input)
+      (rule_follows header (catalog_of t) (site_of t) K (sound_at t K S.stands) (open_at t K S.stands) S.started
+      (most_at t) input)
 
   pub plan_recorded : IsSizedInput (catalog_of t).sites input → IfSome p.rec (IsRecordAmong (catalog_of t).sites)
   plan_recorded sized =
       by_rule (λ e. IfSome e.wrote (IsRecordAmong (catalog_of t).sites))
-      (rule_recorded (catalog_of t) (site_of t) K (sound_at t K S.stands) (open_at t K S.stands) S.started (most_at t) input
-      sized)
+      (rule_recorded header (catalog_of t) (site_of t) K (sound_at t K S.stands) (open_at t K S.stands) S.started
+      (most_at t) input sized)
 
   pub plan_sent : IsSizedInput (catalog_of t).sites input
       → All (λ s. IsSizedPacket (catalog_of t).sites s.1) p.sends
   plan_sent sized =
       by_rule (λ e. All (λ s. IsSizedPacket (catalog_of t).sites s.1) e.sends)
-      (rule_sent (catalog_of t) (site_of t) K (sound_at t K S.stands) (open_at t K S.stands) S.started (most_at t) input
-      sized)
+      (rule_sent header (catalog_of t) (site_of t) K (sound_at t K S.stands) (open_at t K S.stands) S.started
+      (most_at t) input sized)
 
   pub plan_short : IsShortOutcome p.outcome
   plan_short =
       by_rule (λ e. IsShortOutcome e.outcome)
-      (rule_short (catalog_of t) (site_of t) K (sound_at t K S.stands) (open_at t K S.stands) S.started (most_at t) input)
+      (rule_short header (catalog_of t) (site_of t) K (sound_at t K S.stands) (open_at t K S.stands) S.started
+      (most_at t) input)
 
   pub plan_news : IsNewsIn (site_of t) (recorded (catalog_of t) (site_of t) p.rec K) input p.outcome
   plan_news =
       by_rule (λ e. IsNewsIn (site_of t) (recorded (catalog_of t) (site_of t) e.wrote K) input e.outcome)
-      (rule_news (catalog_of t) (site_of t) K (sound_at t K S.stands) (open_at t K S.stands) S.started (most_at t) input)
+      (rule_news header (catalog_of t) (site_of t) K (sound_at t K S.stands) (open_at t K S.stands) S.started
+      (most_at t) input)
 
   pub plan_within : IsFromWithin (catalog_of t) input p.outcome
   plan_within =
       by_rule (λ e. IsFromWithin (catalog_of t) input e.outcome)
-      (rule_within (catalog_of t) (site_of t) K (sound_at t K S.stands) (open_at t K S.stands) S.started (most_at t) input)
+      (rule_within header (catalog_of t) (site_of t) K (sound_at t K S.stands) (open_at t K S.stands) S.started
+      (most_at t) input)
 
   pub plan_for : IsFor input p.outcome
-  plan_for = by_rule (λ e. IsFor input e.outcome) (rule_for (catalog_of t) (site_of t) K input)
+  plan_for = by_rule (λ e. IsFor input e.outcome) (rule_for (catalog_of t) (site_of t) K header input)
 
   pub plan_started : IsStarted (site_of t) (after (catalog_of t) (site_of t) K (Given input) p.outcome p.rec)
   plan_started =
       by_rule (λ e. IsStarted (site_of t) (after (catalog_of t) (site_of t) K (Given input) e.outcome e.wrote))
-      (rule_started (catalog_of t) (site_of t) K (sound_at t K S.stands) (open_at t K S.stands) S.started (most_at t) input)
+      (rule_started header (catalog_of t) (site_of t) K (sound_at t K S.stands) (open_at t K S.stands) S.started
+      (most_at t) input)
 
   -- what takes memory is of an input that may want it
   pub plan_wants_record : IsSome p.rec → TakesMemory true (Given input)
   plan_wants_record =
       by_rule (λ e. IsSome e.wrote → TakesMemory true (Given input))
-      (rule_wants_record (catalog_of t) (site_of t) K (sound_at t K S.stands) (open_at t K S.stands) S.started (most_at t)
-      input)
+      (rule_wants_record header (catalog_of t) (site_of t) K (sound_at t K S.stands) (open_at t K S.stands) S.started
+      (most_at t) input)
 
   pub plan_wants_room : TakesRoomIn input p.outcome → TakesMemory true (Given input)
   plan_wants_room =
       by_rule (λ e. TakesRoomIn input e.outcome → TakesMemory true (Given input))
-      (rule_wants_room (catalog_of t) (site_of t) K input)
+      (rule_wants_room (catalog_of t) (site_of t) K header input)
 
 -- a call can be answered as the rule says
 module _ (t : Tables) (K : Knowledge) (S : Stands t K) where
@@ -111,12 +118,13 @@ module _ (t : Tables) (K : Knowledge) (S : Stands t K) where
   call_fits client call Down ruled = tt
   call_fits client call Refused ruled = tt
 
-  pub input_fits : (input : Input) (outcome : Outcome)
-      → (input_rule (catalog_of t) (site_of t) K input).outcome ≡ outcome → CanBeAnsweredAny t input outcome
-  input_fits (Call client call) outcome ruled = call_fits client call outcome ruled
-  input_fits (Deliver from number packet) outcome ruled = tt
-  input_fits (Advance from) outcome ruled = tt
-  input_fits Tick outcome ruled = tt
+  pub input_fits : (header : Format) (input : Input) (outcome : Outcome)
+      → (input_rule header (catalog_of t) (site_of t) K input).outcome ≡ outcome → CanBeAnsweredAny t input outcome
+  input_fits header (Call client call) outcome ruled = call_fits client call outcome ruled
+  input_fits header (Deliver from number packet) outcome ruled = tt
+  input_fits header (Advance from) outcome ruled = tt
+  input_fits header Tick outcome ruled = tt
+  input_fits header Upgrade outcome ruled = tt
 
 -- what can be taken in can be taken in once the record is kept
 pub kept_takes_in : (old new : Tables) (K : Knowledge) (rec : Option Record) → Stands old K
@@ -128,13 +136,14 @@ kept_takes_in old new K rec S S2 sessions site catalog input outcome asked can =
     takes_in_kept old new site catalog (starts_kept old new K rec S S2) sessions input outcome asked can
 
 -- a call can be answered as planned, by tables that stand for as much
-pub plan_fits : (t new : Tables) (K : Knowledge) → Stands new K → site_of new ≡ site_of t → catalog_of new ≡ catalog_of t
-    → (input : Input) (p : Planned) → expected_of p ≡ input_rule (catalog_of t) (site_of t) K input
+pub plan_fits : (header : Format) (t new : Tables) (K : Knowledge) → Stands new K → site_of new ≡ site_of t
+    → catalog_of new ≡ catalog_of t
+    → (input : Input) (p : Planned) → expected_of p ≡ input_rule header (catalog_of t) (site_of t) K input
     → CanBeAnsweredAny new input p.outcome
-plan_fits t new K S site catalog input p ruled =
-    input_fits new K S input p.outcome
-    (subst (λ (c : Catalog). (input_rule c (site_of new) K input).outcome ≡ p.outcome) (sym catalog)
-    (subst (λ (i : SiteId). (input_rule (catalog_of t) i K input).outcome ≡ p.outcome) (sym site)
+plan_fits header t new K S site catalog input p ruled =
+    input_fits new K S header input p.outcome
+    (subst (λ (c : Catalog). (input_rule header c (site_of new) K input).outcome ≡ p.outcome) (sym catalog)
+    (subst (λ (i : SiteId). (input_rule header (catalog_of t) i K input).outcome ≡ p.outcome) (sym site)
     (ap (λ (e : Expected). e.outcome) (sym ruled))))
 
 -- what the tables stand for once the record is kept and the input is taken in
@@ -145,9 +154,10 @@ module _ (t kept new : Tables) (input : Input) (p : Planned) (begun : Option ℕ
     → IfSome p.rec (IsRecordAmong (catalog_of t).sites)
     → Stands kept (recorded (catalog_of t) (site_of t) p.rec K))
     (sizes : IfSome p.rec (IsRecordAmong (catalog_of t).sites))
-    (K : Knowledge) (S : Knows t K) (ruled : expected_of p ≡ input_rule (catalog_of t) (site_of t) K input) where
+    (header : Format) (K : Knowledge) (S : Knows t K)
+    (ruled : expected_of p ≡ input_rule header (catalog_of t) (site_of t) K input) where
   keeps_planned : Stands kept (recorded (catalog_of t) (site_of t) p.rec K)
-  keeps_planned = keeps K S.stands (plan_follows t K S input p ruled) sizes
+  keeps_planned = keeps K S.stands (plan_follows header t K S input p ruled) sizes
 
   pub planned_takes_in : kept.sessions ≡ t.sessions → (asked : Option Update)
       → CanTakeIn t input p.outcome asked → CanTakeIn kept input p.outcome asked
@@ -161,11 +171,11 @@ module _ (t kept new : Tables) (input : Input) (p : Planned) (begun : Option ℕ
       → Knows new (after (catalog_of t) (site_of t) K (Given input) p.outcome p.rec)
   planned_knows begins takes =
       let K2 = recorded (catalog_of t) (site_of t) p.rec K in
-      let news = subst (λ (i : SiteId). IsNewsIn i K2 input p.outcome) (sym kept_site) (plan_news t K S input p ruled) in
+      let news = subst (λ (i : SiteId). IsNewsIn i K2 input p.outcome) (sym kept_site) (plan_news header t K S input p ruled) in
       record {
         stands = subst (λ (c : Catalog). Stands new (heard (Given input) p.outcome
             (answered c (Given input) p.outcome p.rec K2))) kept_catalog
             (takes K2 p.rec keeps_planned (sym begins) news);
         started = subst (λ (i : SiteId). IsStarted i (after (catalog_of t) (site_of t) K (Given input) p.outcome p.rec))
-            (sym (site ∙ kept_site)) (plan_started t K S input p ruled);
+            (sym (site ∙ kept_site)) (plan_started header t K S input p ruled);
       }

@@ -4,7 +4,7 @@ use Rattle.std.specs.Prelude.{IsSomeAnd}
 use Rattle.walter_base.specs.declared.catalog.Catalog.{Catalog}
 use Rattle.walter_base.specs.declared.message.BadFrame.{BadFrame}
 use Rattle.walter_base.specs.declared.message.Record.{Record}
-use Rattle.walter_base.specs.declared.message.Record.TheVariants.{Boot, Own, Got, Seen, Prepared, Released, SlowBegin, SlowEnd, Marks}
+use Rattle.walter_base.specs.declared.message.Record.TheVariants.{Boot, Own, Got, Seen, Prepared, Released, SlowBegin, SlowEnd, Marks, Format as FormatRecord}
 use Rattle.walter_base.specs.declared.message.Reply.{Reply}
 use Rattle.walter_base.specs.declared.message.Reply.TheVariants.{Started, Value, Done, Set, Count, Committed, Aborted, Deciding, Level, Ended, Unsure, Refused}
 use Rattle.walter_base.specs.declared.message.Request.{Request}
@@ -20,7 +20,7 @@ use Rattle.walter_log.specs.Logged.{Logged, room_of}
 use Rattle.walter_site.specs.Plans.{CanKeepAny, CanTakeIn}
 use Rattle.walter_rows.specs.Rows.{HaveRoom}
 use Rattle.walter_rules.specs.declared.event.Input.{Input}
-use Rattle.walter_rules.specs.declared.event.Input.TheVariants.{Call, Deliver, Advance, Tick}
+use Rattle.walter_rules.specs.declared.event.Input.TheVariants.{Call, Deliver, Advance, Tick, Upgrade}
 use Rattle.walter_rules.specs.declared.outcome.Outcome.{Outcome}
 use Rattle.walter_rules.specs.declared.outcome.Outcome.TheVariants.{Replied, Taken, Passed, Failed, Full, Memory, Down, Refused as IsRefused}
 use Rattle.walter_rules.specs.Deliveries.{is_peer}
@@ -98,6 +98,7 @@ module _ (old new : Tables) (site : new.site ≡ old.site) (catalog : new.catalo
     )
     goes_kept (SlowEnd n) on = tt
     goes_kept (Marks stays shown) on = by_durable (λ d. CanJournal d.holdings stays shown) on
+    goes_kept FormatRecord on = tt
 
     room_kept : (rec : Record) → HasRoomFor old rec → HasRoomFor new rec
     room_kept (Boot epoch) room = tt
@@ -123,6 +124,7 @@ module _ (old new : Tables) (site : new.site ≡ old.site) (catalog : new.catalo
     )
     room_kept (SlowEnd n) room = tt
     room_kept (Marks stays shown) room = tt
+    room_kept FormatRecord room = tt
 
   -- what the answer to a call needs of them
   module _ (starts : new.starts ≡ old.starts) (sessions : new.sessions ≡ old.sessions) where
@@ -187,6 +189,7 @@ module _ (old new : Tables) (site : new.site ≡ old.site) (catalog : new.catalo
     takes_in_kept (Deliver from number packet) outcome asked can = tt
     takes_in_kept (Advance from) outcome asked can = tt
     takes_in_kept Tick outcome asked can = tt
+    takes_in_kept Upgrade outcome asked can = tt
 
 -- what is made for a record stays so
 pub keeps_kept : (old new : Tables) → new.site ≡ old.site → new.catalog ≡ old.catalog → new.log ≡ old.log
@@ -215,3 +218,4 @@ known_site t (Released j n) on = (peer_true t.catalog t.site j on).0
 known_site t (SlowBegin n tx) on = tt
 known_site t (SlowEnd n) on = tt
 known_site t (Marks stays shown) on = tt
+known_site t FormatRecord on = tt

@@ -12,10 +12,10 @@ use Rattle.walter_base.specs.Vectors.{most_sites}
 use Rattle.walter_rules.specs.declared.event.Event.{Event}
 use Rattle.walter_rules.specs.declared.event.Event.TheVariants.{Given, Stop, Restart}
 use Rattle.walter_rules.specs.declared.event.Input.{Input}
-use Rattle.walter_rules.specs.declared.event.Input.TheVariants.{Call, Deliver, Advance, Tick}
+use Rattle.walter_rules.specs.declared.event.Input.TheVariants.{Call, Deliver, Advance, Tick, Upgrade}
 use Rattle.walter_rules.specs.declared.outcome.Outcome.{Outcome}
 use Rattle.walter_rules.specs.declared.outcome.Outcome.TheVariants.{Replied, Passed, Down}
-use Rattle.walter_rules.specs.Allowed.{IsKind, passes, is_down, commits, begins, receives, marks_durable, marks_visible, prepares, decides, gives_up, releases, sees, boots}
+use Rattle.walter_rules.specs.Allowed.{IsKind, passes, is_down, commits, begins, receives, marks_durable, marks_visible, prepares, decides, gives_up, releases, sees, upgrades, boots}
 use Rattle.walter_rules.specs.Knowledge.{session_of}
 use Rattle.walter_rules.specs.Learning.{recorded}
 use Rattle.walter_rules.specs.Objects.{participants}
@@ -65,6 +65,7 @@ IsOfCall (Replied reply) (Call client call) = Unit {0}
 IsOfCall (Replied reply) (Deliver from number packet) = ⊥
 IsOfCall (Replied reply) (Advance from) = ⊥
 IsOfCall (Replied reply) Tick = ⊥
+IsOfCall (Replied reply) Upgrade = ⊥
 IsOfCall outcome input = Unit {0}
 
 -- no call
@@ -108,6 +109,7 @@ module _ (catalog : Catalog) (i : SiteId) (S : Standing) where
   kind_wants up event wrote outcome (gives_up p number n tx asked conflict from undecided within alive) is = tt
   kind_wants up event wrote outcome (releases j number n from alive) is = tt
   kind_wants up event wrote outcome (sees j tx from due) is = tt
+  kind_wants up event wrote outcome (upgrades there first) is = tt
   kind_wants up event wrote outcome (boots down) is = absurd cc
   kind_wants up event wrote outcome kind is = absurd cc
 

@@ -1,6 +1,7 @@
 -- A site among others that is up, by its tables.
 use Rattle.std.specs.Prelude.{◌≡◌, ◌<◌, ℕ, true, List}
 use Rattle.walter_base.specs.declared.catalog.Catalog.{Catalog}
+use Rattle.walter_base.specs.declared.format.Format.{Format}
 use Rattle.walter_base.specs.declared.names.SiteId.{SiteId}
 use Rattle.walter_base.specs.declared.packet.Packet.{Packet}
 use Rattle.walter_base.specs.declared.transaction.Tx.{Tx}
@@ -37,9 +38,9 @@ IsStanding t = (K : Knowledge) × Knows t K
 abbrev pub up_with : Knowledge → Standing
 up_with K = record unmade { up = true; knows = K }
 
--- what is to come of an input there
-abbrev pub input_rule : Catalog → SiteId → Knowledge → Input → Expected
-input_rule catalog i K input = given_rule catalog i (up_with K) input
+-- what is to come of an input there, over a journal whose header names this format
+abbrev pub input_rule : Format → Catalog → SiteId → Knowledge → Input → Expected
+input_rule header catalog i K input = given_rule header catalog i (up_with K) input
 
 -- a packet that can be spelled, of a site among so many
 pub record IsSizedPacket (sites : ℕ) (packet : Packet) : Type 0 where

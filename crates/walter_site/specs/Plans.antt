@@ -6,7 +6,7 @@ use Rattle.walter_base.specs.declared.names.SiteId.{SiteId}
 use Rattle.walter_base.specs.declared.update.Update.{Update}
 use Rattle.walter_site.specs.declared.plan.Plan.{Plan}
 use Rattle.walter_rules.specs.declared.event.Input.{Input}
-use Rattle.walter_rules.specs.declared.event.Input.TheVariants.{Call, Deliver, Advance, Tick}
+use Rattle.walter_rules.specs.declared.event.Input.TheVariants.{Call, Deliver, Advance, Tick, Upgrade}
 use Rattle.walter_rules.specs.declared.outcome.Outcome.{Outcome}
 use Rattle.walter_rules.specs.declared.outcome.Outcome.TheVariants.{Replied, Taken}
 use Rattle.walter_rules.specs.Knowledge.{Knowledge}
@@ -70,3 +70,4 @@ IsFor (Call client call) outcome = Unit {0}
 IsFor (Deliver from number packet) outcome = IsNoReply outcome
 IsFor (Advance from) outcome = IsNoReply outcome
 IsFor Tick outcome = IsNoReply outcome
+IsFor Upgrade outcome = IsNoReply outcome

@@ -69,7 +69,7 @@ pub fn take_in(
     match input {
         Input::Call { client, call } => take_answer(tables, *client, call, outcome, asked, begun),
         Input::Deliver { from, packet, .. } => take_packet(tables, *from, packet, outcome),
-        Input::Advance { .. } | Input::Tick => {}
+        Input::Advance { .. } | Input::Tick | Input::Upgrade => {}
     }
 }
 

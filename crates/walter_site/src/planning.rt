@@ -11,15 +11,15 @@ ghost use Rattle.walter_tables.specs.Keeping.{GoesOn};
 ghost use Rattle.walter_tables.specs.Planning.{expected_of, IsUp};
 ghost use Rattle.walter_tables.specs.Sites.{values_of, site_of, catalog_of, Stands};
 
-use walter_base::{BadFrame, Call, Mem, Packet, Refusal, Reply, Request, SiteId};
+use walter_base::{BadFrame, Call, Format, Mem, Packet, Refusal, Reply, Request, SiteId};
 use walter_rules::Input;
 use walter_tables::{Planned, Tables};
 
-/// What is to come of an input.
-pub fn plan_input(tables: &Tables, input: &Input) -> Mem<Planned>
+/// What is to come of an input, over a journal whose header names this format.
+pub fn plan_input(tables: &Tables, input: &Input, header: Format) -> Mem<Planned>
     requires { IsStanding tables.now }
     ensures rule { IfOk result (λ p. (K : Knowledge) → Stands tables.now K
-        → expected_of p ≡ input_rule (catalog_of tables.now) (site_of tables.now) K input.now) }
+        → expected_of p ≡ input_rule header (catalog_of tables.now) (site_of tables.now) K input.now) }
     ensures on { IfOk result (λ p. IfSome p.rec (GoesOn tables.now)) }
     ensures free { OnErr result (TakesMemory true (Event.Given input.now)) }
 {
@@ -28,6 +28,7 @@ pub fn plan_input(tables: &Tables, input: &Input) -> Mem<Planned>
         Input::Deliver { from, packet, .. } => plan_delivery(tables, *from, packet),
         Input::Advance { from } => tables.plan_advance(*from),
         Input::Tick => tables.plan_tick(),
+        Input::Upgrade => tables.plan_upgrade(header),
     }
 }
 
@@ -62,7 +63,7 @@ fn plan_delivery(tables: &Tables, from: SiteId, packet: &Packet) -> Mem<Planned>
         Packet::Dsmark(durable) => Ok(tables.plan_dsmark(from, *durable)),
         Packet::Visible(committed) => tables.plan_visible(from, *committed),
         Packet::Prepare(slow, tid, start, objects) => {
-            tables.plan_prepare(from, *slow, *tid, start.vector(), objects)
+            tables.plan_prepare(from, *slow, *tid, &start.vector(), objects)
         }
         Packet::Vote(slow, answer) => tables.plan_vote(from, *slow, answer),
         Packet::Release(slow) => tables.plan_release(from, *slow),

@@ -49,7 +49,7 @@ pub fn ready_answer(tables: &mut Tables, input: &Input, outcome: &Outcome) -> Me
 {
     match input {
         Input::Call { client, call } => ready_reply(tables, *client, call, outcome),
-        Input::Deliver { .. } | Input::Advance { .. } | Input::Tick => Ok(None),
+        Input::Deliver { .. } | Input::Advance { .. } | Input::Tick | Input::Upgrade => Ok(None),
     }
 }
 

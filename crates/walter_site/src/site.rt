@@ -9,7 +9,7 @@ use crate::planning::plan_input;
 use crate::readying::{make_ready, ready_answer};
 use std::marker::Model;
 use std::mem;
-use walter_base::{MaybeRecord, Mem, SiteId};
+use walter_base::{Format, MaybeRecord, Mem, SiteId};
 use walter_rules::Input;
 use walter_session::Sessions;
 use walter_tables::Tables;
@@ -35,6 +35,7 @@ impl Model for Site {
 }
 
 impl Site {
+    ghost use Rattle.walter_base.specs.declared.format.Format.{Format as Header};
     ghost use Rattle.walter_site.specs.Members.{Knows, IsStanding, input_rule, IsSizedPacket, IsSizedInput, IsShortOutcome};
     ghost use Rattle.walter_site.specs.Plans.{IsReady};
     ghost use Rattle.walter_rules.specs.declared.event.Event.{Event};
@@ -68,12 +69,12 @@ impl Site {
         self.tables.tidy();
     }
 
-    /// The plan of the rule for an input. It takes all the memory that applying it needs, and changes nothing that can
-    /// be seen. Where memory runs out, nothing is known of the plan.
-    pub fn plan(&mut self, input: &Input, plan: &mut Plan) -> Mem<()>
+    /// The plan of the rule for an input, over a journal whose header names this format. It takes all the memory that
+    /// applying it needs, and changes nothing that can be seen. Where memory runs out, nothing is known of the plan.
+    pub fn plan(&mut self, input: &Input, header: Format, plan: &mut Plan) -> Mem<()>
         requires sized { IsSizedInput (catalog_of self.old).sites input.now }
         ensures rule { OnOk result ((K : Knowledge) → Knows self.old K
-            → expected_of plan.new.planned ≡ input_rule (catalog_of self.old) (site_of self.old) K input.now) }
+            → expected_of plan.new.planned ≡ input_rule header (catalog_of self.old) (site_of self.old) K input.now) }
         ensures ready { OnOk result (IsReady self.new input.now plan.new) }
         ensures follows { OnOk result ((K : Knowledge) → Knows self.old K
             → IfSome plan.new.planned.rec (CanFollow (catalog_of self.old) (site_of self.old) K)) }
@@ -88,7 +89,7 @@ impl Site {
         ensures site { site_of self.new ≡ site_of self.old }
         ensures catalog { catalog_of self.new ≡ catalog_of self.old }
     {
-        plan.planned = plan_input(&self.tables, input)?;
+        plan.planned = plan_input(&self.tables, input, header)?;
         plan.made = make_ready(&mut self.tables, &plan.planned.rec)?;
         plan.asked = ready_answer(&mut self.tables, input, &plan.planned.outcome)?;
         Ok(())
@@ -97,12 +98,12 @@ impl Site {
     /// Keeps what the plan's record tells, and takes in its input, without taking memory. The outcome and the packets
     /// stay in the plan.
     pub fn apply(&mut self, input: &Input, plan: &mut Plan)
-        requires rule { (K : Knowledge) × Knows self.old K
-            × (expected_of plan.old.planned ≡ input_rule (catalog_of self.old) (site_of self.old) K input.now) }
+        requires rule { (header : Header) × (K : Knowledge) × Knows self.old K
+            × (expected_of plan.old.planned ≡ input_rule header (catalog_of self.old) (site_of self.old) K input.now) }
         requires ready { IsReady self.old input.now plan.old }
         requires sizes { IfSome plan.old.planned.rec (IsRecordAmong (catalog_of self.old).sites) }
-        ensures knows { (K : Knowledge) → Knows self.old K
-            → expected_of plan.old.planned ≡ input_rule (catalog_of self.old) (site_of self.old) K input.now
+        ensures knows { (header : Header) (K : Knowledge) → Knows self.old K
+            → expected_of plan.old.planned ≡ input_rule header (catalog_of self.old) (site_of self.old) K input.now
             → Knows self.new (after (catalog_of self.old) (site_of self.old) K (Event.Given input.now)
             plan.old.planned.outcome plan.old.planned.rec) }
         ensures tick { input.now ≡ Given.Tick → self.new ≡ self.old }
@@ -117,6 +118,13 @@ impl Site {
         let begun = number_begun(&rec);
         keep_any(&mut self.tables, rec, made);
         take_in(&mut self.tables, input, &plan.planned.outcome, asked, begun);
+    }
+
+    /// The format that the records tell: the second behind the record that says so.
+    pub fn format(&self) -> Format
+        ensures { (K : Knowledge) → Knows self.now K → result ≡ K.format }
+    {
+        self.tables.format()
     }
 
     /// The least peer whose next commit can be committed here.

@@ -10,6 +10,9 @@ returns-in-Advance-clause-stands c = λ K wrote S begun news.
     let outcome = c.args.outcome.now in
     let idle : IsIdle input outcome = elim c.in-Advance.is [
       | inl advance ↦ subst (λ x. IsIdle x outcome) (sym advance.1) tt
-      | inr tick ↦ subst (λ x. IsIdle x outcome) (sym tick) tt
+      | inr other ↦ elim other [
+        | inl tick ↦ subst (λ x. IsIdle x outcome) (sym tick) tt
+        | inr upgrade ↦ subst (λ x. IsIdle x outcome) (sym upgrade) tt
+      ]
     ] in
     subst (Stands t) (sym (all_left (catalog_of t) wrote K input outcome c.requires.of_input idle)) S

@@ -54,9 +54,9 @@ returns-clause-comes c = λ layout S ready fits.
     (made c) ready fits
 
 pub returns-clause-stands : goal.returns-clause-stands
-returns-clause-stands c = λ S has counted ready.
+returns-clause-stands c = λ header S has counted ready.
     let m = c.args.self.now in
-    failed_standing_by m _ S c.args.event.now c.args.ready.now c.in-Some.failed.now _ c.failure-outcome.result
+    failed_standing_by header m _ S c.args.event.now c.args.ready.now c.in-Some.failed.now _ c.failure-outcome.result
     (sym c.args.ready.now.copy ∙ sym c.replace-rec.ensures.value ∙ c.in-Some.ensures.some)
     (made c)
     has counted ready (room_of m c.requires.room).unlost m.of c.failure-outcome.ensures

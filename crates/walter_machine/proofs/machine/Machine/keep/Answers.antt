@@ -60,7 +60,7 @@ returns-clause-comes c = λ layout S ready fits.
     (keep_comes m.catalog layout m.id m.site S c.args.event.now c.args.ready.now ready fits)
 
 pub returns-clause-stands : goal.returns-clause-stands
-returns-clause-stands c = λ S has counted ready.
+returns-clause-stands c = λ header S has counted ready.
     let m = c.args.self.now in
     let out = c.follow.ensures in
     let plan = c.args.ready.now.plan in
@@ -70,7 +70,7 @@ returns-clause-stands c = λ S has counted ready.
     subst (λ (k : Kind). Steps m.catalog m.id S c.args.event.now (came_of (step_by k plan)) c.follow.new.site c.follow.new.lost) of_kind
     (out.steps m.catalog m.id S m.of has.state
     (subst (λ (k : Kind). IsStep m.catalog m.id m.site S c.args.event.now (step_by k plan)) (sym of_kind) ready.step)) in
-    kept_standing m _ S c.args.event.now c.args.ready.now _ c.follow.new.plan.planned.outcome
+    kept_standing header m _ S c.args.event.now c.args.ready.now _ c.follow.new.plan.planned.outcome
     (returns-clause-came c) has counted ready (room_of m c.requires.room).unlost steps refl refl
     (c.count_in-records.ensures.flight ∙ (λ j. flight_behind (wrote_is j) (c.replace-flight.ensures.value j)))
     (c.count_in-records.ensures.records ∙ (λ j. records_behind (wrote_is j) m.records))

@@ -17,7 +17,7 @@ returns-clause-comes c = λ layout S ready much.
     (overflow_comes m.catalog layout m.id m.site S c.args.event.now c.args.ready.now c.args.need c.args.left ready c.requires.flies much)
 
 pub returns-clause-stands : goal.returns-clause-stands
-returns-clause-stands c = λ S has ready.
+returns-clause-stands c = λ header S has ready.
     let m = c.args.self.now in
     filled_standing m _ S c.args.event.now _ c.args.need c.args.left (returns-clause-came c) has
     (overflow_filled m.catalog m.id m.site S c.args.event.now (step_in c.args.ready.now) c.args.need c.args.left has.state ready.step c.requires.flies has.told)

@@ -20,8 +20,8 @@ returns-in-Given-clause-ready c = λ S has.
     let made = c.prepare_input in
     let up = subst (λ (o : Option Tables). IsState S o) c.in-Some.is has.state in
     let of = subst (λ (o : Option Tables). IfSome o (IsOf m.catalog m.id)) c.in-Some.is m.of in
-    subst (λ (e : Event). OnOk made.result (IsReadyFor m.catalog m.id (Some made.new.site) S e made.new.ready)) (sym c.in-Given.is)
-    (at_site (λ (x : Catalog) (k : SiteId). OnOk made.result (IsReadyFor x k (Some made.new.site) S (Given c.in-Given.input) made.new.ready)) c.in-Some.site
+    subst (λ (e : Event). OnOk made.result (IsReadyFor c.args.header m.catalog m.id (Some made.new.site) S e made.new.ready)) (sym c.in-Given.is)
+    (at_site (λ (x : Catalog) (k : SiteId). OnOk made.result (IsReadyFor c.args.header x k (Some made.new.site) S (Given c.in-Given.input) made.new.ready)) c.in-Some.site
     m.catalog m.id of (made.ensures.ready S up (debt_so m S _ _ has (m.roomy c.requires.up) c.debt_of-owed.ensures)))
 
 pub returns-in-Given-clause-anyway : goal.returns-in-Given-clause-anyway
@@ -47,8 +47,9 @@ returns-in-Stop-clause-anyway c =
     let m = c.args.self.now in
     let made = c.make_fall in
     subst (λ (e : Event). IsReadyAnyway m.catalog m.id (Some c.in-Some.site) e made.new.ready) (sym c.in-Stop.is) (record {
+      header = c.args.header;
       S = record unmade { up = true };
-      ready_for = stop_ready m.catalog m.id (Some c.in-Some.site) (record unmade { up = true }) refl refl made.new.ready made.ensures.step made.ensures.frames;
+      ready_for = stop_ready c.args.header m.catalog m.id (Some c.in-Some.site) (record unmade { up = true }) refl refl made.new.ready made.ensures.step made.ensures.frames;
     })
 
 pub returns-in-Restart-clause-ready : goal.returns-in-Restart-clause-ready
@@ -56,14 +57,15 @@ returns-in-Restart-clause-ready c = λ S has.
     let m = c.args.self.now in
     let made = c.make_answer in
     let up = subst (λ (o : Option Tables). IsState S o) c.in-Some.is has.state in
-    subst (λ (e : Event). IsReadyFor m.catalog m.id (Some c.in-Some.site) S e made.new.ready) (sym c.in-Restart.is)
-    (pass_ready m.catalog m.id (Some c.in-Some.site) S up.up made.new.ready made.ensures.step made.ensures.frames)
+    subst (λ (e : Event). IsReadyFor c.args.header m.catalog m.id (Some c.in-Some.site) S e made.new.ready) (sym c.in-Restart.is)
+    (pass_ready c.args.header m.catalog m.id (Some c.in-Some.site) S up.up made.new.ready made.ensures.step made.ensures.frames)
 
 pub returns-in-Restart-clause-anyway : goal.returns-in-Restart-clause-anyway
 returns-in-Restart-clause-anyway c =
     let m = c.args.self.now in
     let made = c.make_answer in
     subst (λ (e : Event). IsReadyAnyway m.catalog m.id (Some c.in-Some.site) e made.new.ready) (sym c.in-Restart.is) (record {
+      header = c.args.header;
       S = record unmade { up = true };
-      ready_for = pass_ready m.catalog m.id (Some c.in-Some.site) (record unmade { up = true }) refl made.new.ready made.ensures.step made.ensures.frames;
+      ready_for = pass_ready c.args.header m.catalog m.id (Some c.in-Some.site) (record unmade { up = true }) refl made.new.ready made.ensures.step made.ensures.frames;
     })
