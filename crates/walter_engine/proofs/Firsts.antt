@@ -3,6 +3,7 @@ use Rattle.std.proofs.Common.{◌≡◌, ℕ, ◌+◌, ◌<◌, ◌≤◌, List,
 use Rattle.std.specs.Prelude.{◌≢◌, IfSome, IsSome, OnOk, is_ok}
 use Rattle.std.proofs.lemmas.List.Elements.{All-nil}
 use Rattle.walter_base.specs.declared.catalog.Catalog.{Catalog}
+use Rattle.walter_base.specs.declared.format.Format.{Format}
 use Rattle.walter_base.specs.declared.message.Record.{Record}
 use Rattle.walter_base.specs.declared.names.SiteId.{SiteId}
 use Rattle.walter_disk.proofs.Moments.{weaker, joined}
@@ -11,7 +12,7 @@ use Rattle.walter_disk.specs.Images.{Only, IsImage, LeavesOnly}
 use Rattle.walter_engine.specs.declared.answers.BeginFault.{BeginFault}
 use Rattle.walter_engine.specs.declared.answers.BeginFault.TheVariants as unbegun
 use Rattle.walter_engine.specs.Begins.{HasOnly, MayHaveBegun, MayHaveBoot, IsBegun, IsFaultOfBegin, IsLaidOver}
-use Rattle.walter_engine.specs.Contents.{HasBodies, MayHaveNext}
+use Rattle.walter_engine.specs.Contents.{HasBodies, MayHaveNext, spelled, HasSpellingThere}
 use Rattle.walter_engine.specs.Effects.{IsRefusedOver}
 use Rattle.walter_engine.specs.Firsts.{IsAnswerTo, IsBegunOver, MayHaveFirst, not_loaded_by}
 use Rattle.walter_engine.specs.Raises.{LiesIn, Raises}
@@ -34,7 +35,6 @@ use Rattle.walter_disk.specs.Disks.{DiskState}
 use Rattle.walter_machine.proofs.Records.{told_unmade}
 use Rattle.walter_machine.specs.declared.machine.Machine.{Machine}
 use Rattle.walter_machine.specs.Comings.{is_faulty, RisesIf}
-use Rattle.walter_record.specs.Spelling.{record_spelled, HasRecordSpelling}
 use Rattle.walter_rules.specs.declared.entry.Came.{Came}
 use Rattle.walter_rules.specs.declared.event.Event.TheVariants.{Restart}
 use Rattle.walter_rules.specs.declared.outcome.Outcome.{Outcome}
@@ -50,18 +50,19 @@ no_items [] none = refl
 no_items (x ∷ xs) none = absurd (omega arith)
 
 -- no records tell of no epoch
-none_last : (catalog : Catalog) (i : SiteId) (records : List Record) → map record_spelled records ≡ []
+none_last : (header : Format) (catalog : Catalog) (i : SiteId) (records : List Record) → spelled header records ≡ []
     → (replayed catalog i fresh records).epoch ≡ 4294967295 → ⊥
-none_last catalog i [] none last = omega (arith, last)
-none_last catalog i (rec ∷ records) none last = absurd (cc)
+none_last header catalog i [] none last = omega (arith, last)
+none_last header catalog i (rec ∷ records) none last = absurd (cc)
 
 -- a restart over no bodies isn't refused
-pub not_refused : (catalog : Catalog) (i : SiteId) (bodies : List (List ℕ)) (why : RefusedRestart) → bodies ≡ []
-    → IsRefusedOver catalog i bodies why → ⊥
-not_refused catalog i bodies refused.Foreign none over = over
-not_refused catalog i bodies (refused.Damaged at length) none over = over
-not_refused catalog i bodies (refused.Unreadable index) none over = let within = over.within in cc
-not_refused catalog i bodies refused.LastEpoch none over = none_last catalog i over.0 (sym over.1.spell ∙ none) over.2
+pub not_refused : (header : Format) (catalog : Catalog) (i : SiteId) (bodies : List (List ℕ)) (why : RefusedRestart)
+    → bodies ≡ [] → IsRefusedOver header catalog i bodies why → ⊥
+not_refused header catalog i bodies refused.Foreign none over = over
+not_refused header catalog i bodies (refused.Damaged at length) none over = over
+not_refused header catalog i bodies (refused.Unreadable index) none over = let within = over.within in cc
+not_refused header catalog i bodies refused.LastEpoch none over =
+    none_last header catalog i over.0 (sym over.1.spell ∙ none) over.2
 
 -- nothing is in flight before the first event
 pub none_kept : (kept : Option Record) → IfSome kept (IsFound unmade Restart) → kept ≡ None
@@ -75,7 +76,7 @@ pub lies_unmade : {D : Type 0} {g : Ghosts D} (catalog : Catalog) (i : SiteId) (
 lies_unmade catalog i book bodies none stands = record {
   down = refl;
   told = told_unmade catalog i;
-  spelled = record { records = All-nil (HasRecordSpelling catalog.sites); flight = tt };
+  spellings = record { records = All-nil (HasSpellingThere catalog.sites); flight = tt };
   is = none;
   laid = refl;
   stands = stands;
@@ -106,16 +107,16 @@ opens catalog layout i came kept sends dropped taken (inr (Comes.full rec brings
 -- ---- what is answered
 
 -- what a restart over no bodies came to can be answered
-pub can_answer : (catalog : Catalog) (i : SiteId) (left : ℕ) (bodies : List (List ℕ)) (wrote : Option Record)
+pub can_answer : (header : Format) (catalog : Catalog) (i : SiteId) (left : ℕ) (bodies : List (List ℕ)) (wrote : Option Record)
     (why : Option RefusedRestart) (outcome : Outcome) → 10 ≤ left → bodies ≡ []
-    → ComesOf catalog i left bodies wrote why outcome → (answer : Result (Unit {0}) BeginFault) × IsAnswerTo outcome answer
-can_answer catalog i left bodies wrote why Taken place none over = (Ok tt, refl)
-can_answer catalog i left bodies wrote why Failed place none over = (Err unbegun.Failed, refl)
-can_answer catalog i left bodies wrote why Memory place none over = (Err unbegun.NoMemory, refl)
-can_answer catalog i left bodies wrote why (Full need free) place none over = absurd (omega (arith, place, over.2))
-can_answer catalog i left bodies wrote why Refused place none over =
-    absurd (not_refused catalog i bodies over.0 none over.2)
-can_answer catalog i left bodies wrote why outcome place none over = absurd over
+    → ComesOf header catalog i left bodies wrote why outcome → (answer : Result (Unit {0}) BeginFault) × IsAnswerTo outcome answer
+can_answer header catalog i left bodies wrote why Taken place none over = (Ok tt, refl)
+can_answer header catalog i left bodies wrote why Failed place none over = (Err unbegun.Failed, refl)
+can_answer header catalog i left bodies wrote why Memory place none over = (Err unbegun.NoMemory, refl)
+can_answer header catalog i left bodies wrote why (Full need free) place none over = absurd (omega (arith, place, over.2))
+can_answer header catalog i left bodies wrote why Refused place none over =
+    absurd (not_refused header catalog i bodies over.0 none over.2)
+can_answer header catalog i left bodies wrote why outcome place none over = absurd over
 
 pub answer_up : (outcome : Outcome) (answer : Result (Unit {0}) BeginFault) → IsAnswerTo outcome answer
     → up_after Restart outcome false ≡ is_ok answer

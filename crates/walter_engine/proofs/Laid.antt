@@ -2,12 +2,14 @@
 use Rattle.std.proofs.Common.{◌≡◌, ◌==◌, ℕ, Bool, true, false, if◌then◌else◌, List, get_or, refl, ap, sym, ◌∙◌, subst, inl, inr, arith}
 use Rattle.walter_base.specs.declared.format.Format.TheVariants.{First}
 use Rattle.walter_checkpoint.specs.Areas.{Shape, shape_by, HasTwo, HasContent}
-use Rattle.walter_checkpoint.specs.Books.{areas_of}
+use Rattle.walter_checkpoint.specs.Books.{areas_of, shape_of}
+use Rattle.walter_checkpoint.specs.declared.book.Book.{Book}
 use Rattle.walter_checkpoint.specs.declared.book.Live.{Live}
 use Rattle.walter_checkpoint.specs.declared.book.Live.TheVariants.{Whole, A, B}
+use Rattle.walter_disk.specs.declared.disk.Disk.{Ghosts}
 use Rattle.walter_engine.specs.Contents.{HasBodies}
 use Rattle.walter_engine.specs.Engines.{layout_for}
-use Rattle.walter_engine.specs.Stores.{layout_by}
+use Rattle.walter_engine.specs.Stores.{layout_by, layout_of}
 use Rattle.walter_journal.specs.Layout as journal
 use Rattle.walter_rules.specs.Layouts.{Layout, one_area, two_areas, header_of}
 
@@ -52,6 +54,10 @@ pub laid_header : (shape : Shape) (live : Live) → header_of (layout_by shape l
 laid_header shape Whole = refl
 laid_header shape A = refl
 laid_header shape B = refl
+
+pub laid_first : {D : Type 0} {g : Ghosts D} (book : Book D g) (layout : Layout) → layout_of book ≡ layout
+    → header_of layout ≡ First
+laid_first book layout laid = ap header_of (sym laid) ∙ laid_header (shape_of book) book.live
 
 pub for_header : (areas capacity sites : ℕ) → header_of (layout_for areas capacity sites) ≡ First
 for_header areas capacity sites = by (areas == 2)

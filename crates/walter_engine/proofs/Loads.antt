@@ -1,8 +1,10 @@
 -- A restart from the disk of a site that is down.
 use Rattle.std.proofs.Common.{◌≡◌, ℕ, ◌+◌, ◌<◌, ◌≢◌, List, [], ◌∷◌, ◌++◌, map, length, false, Option, Some, None, refl, ap, sym, ◌∙◌, subst, inl, inr, ◌⊎◌, ⊎_elim, arith}
 use Rattle.std.specs.Prelude.{IfSome, IsSome, is_some}
-use Rattle.std.proofs.lemmas.List.{length-append, length-map}
+use Rattle.std.proofs.lemmas.List.{length-append}
 use Rattle.walter_base.specs.declared.catalog.Catalog.{Catalog}
+use Rattle.walter_base.specs.declared.format.Format.{Format}
+use Rattle.walter_base.specs.declared.format.Format.TheVariants.{First}
 use Rattle.walter_base.specs.declared.message.Record.{Record}
 use Rattle.walter_base.specs.declared.names.SiteId.{SiteId}
 use Rattle.walter_disk.proofs.Moments.{weaker, joined}
@@ -12,7 +14,7 @@ use Rattle.walter_disk.specs.Images.{IsImage, LeavesOnly}
 use Rattle.walter_engine.specs.declared.answers.RefusedRestart.{RefusedRestart}
 use Rattle.walter_engine.specs.declared.answers.RefusedRestart.TheVariants as refused
 use Rattle.walter_engine.specs.declared.engine.Engine.{Engine}
-use Rattle.walter_engine.specs.Contents.{AreSpelled, HasBodies, MayHaveRecords, MayHaveNext}
+use Rattle.walter_engine.specs.Contents.{AreSpelled, HasBodies, MayHaveRecords, MayHaveNext, spelled}
 use Rattle.walter_engine.specs.Effects.{HasCome, IsRefusedOver, IsRefusedFor}
 use Rattle.walter_engine.specs.Engines.{Stands, layout_in}
 use Rattle.walter_engine.specs.Raises.{LiesIn, Raises, calls_before, unloaded_by}
@@ -21,7 +23,7 @@ use Rattle.walter_engine.specs.Stores.{IsOnDisk, IsStored, IsLeft, book_if, disk
 use Rattle.walter_engine.proofs.Crashes.{settled_next}
 use Rattle.walter_engine.proofs.Resting.{SizeIs, size_told, reads_bodies}
 use Rattle.walter_engine.proofs.Laid.{IsLayoutOf, bodies_content, laid_is, one_layout}
-use Rattle.walter_engine.proofs.Spelled.{spelled_settled}
+use Rattle.walter_engine.proofs.Spelled.{Behind, length-spelled, spelled_settled}
 use Rattle.walter_engine.proofs.Taking.{is_full}
 use Rattle.walter_journal.specs.declared.fault.JournalFault.{JournalFault}
 use Rattle.walter_journal.specs.declared.fault.JournalFault.TheVariants as fault
@@ -35,12 +37,11 @@ use Rattle.walter_machine.specs.Comings.{is_faulty, RisesIf, IsRest}
 use Rattle.walter_site.specs.Members.{IsShortOutcome}
 use Rattle.walter_machine.specs.Machines.{is_up, AreFound}
 use Rattle.walter_machine.specs.States.{AreTold}
-use Rattle.walter_record.specs.Spelling.{record_spelled, HasRecordSpelling}
 use Rattle.walter_rules.specs.declared.entry.Came.{Came}
 use Rattle.walter_rules.specs.declared.event.Event.{Event}
 use Rattle.walter_rules.specs.declared.event.Event.TheVariants.{Restart}
 use Rattle.walter_rules.specs.declared.outcome.Outcome.TheVariants.{Refused}
-use Rattle.walter_rules.specs.Layouts.{Layout}
+use Rattle.walter_rules.specs.Layouts.{Layout, header_of}
 use Rattle.walter_rules.specs.Standing.{Standing, settled, stands_after}
 use Rattle.walter_rules.specs.Trails.{Comes, IsFound, TakesMemory, only}
 
@@ -60,75 +61,76 @@ NotDamaged shape =
 -- ---- what was found
 
 -- the bodies are the records, or these with the one in flight behind them
-abbrev pub AreThere : Standing → List (List ℕ) → Type 0
-AreThere S bodies =
-    (bodies ≡ map record_spelled S.records)
-    ⊎ ((rec : Record) × (S.flight ≡ Some rec) × (bodies ≡ map record_spelled (S.records ++ rec ∷ [])))
+abbrev pub AreThere : Format → Standing → List (List ℕ) → Type 0
+AreThere header S bodies =
+    (bodies ≡ spelled header S.records)
+    ⊎ ((rec : Record) × (S.flight ≡ Some rec) × (bodies ≡ spelled header (S.records ++ rec ∷ [])))
 
 -- what may be there is what was found
 there : (shape : Shape) → OneContent shape → (layout : Layout) → IsLayoutOf shape layout → (S : Standing)
     (flight : Option Record) → S.flight ≡ flight → (bytes : List ℕ) (bodies : List (List ℕ))
-    → MayHaveRecords layout S.records flight bytes → HasContent shape bytes bodies → AreThere S bodies
+    → MayHaveRecords layout S.records flight bytes → HasContent shape bytes bodies → AreThere (header_of layout) S bodies
 there shape one layout of_ S None is bytes bodies has content =
-    inl (one bytes bodies (map record_spelled S.records) content (bodies_content shape layout bytes _ of_ has))
+    inl (one bytes bodies (spelled (header_of layout) S.records) content (bodies_content shape layout bytes _ of_ has))
 there shape one layout of_ S (Some rec) is bytes bodies (inl has) content =
-    inl (one bytes bodies (map record_spelled S.records) content (bodies_content shape layout bytes _ of_ has))
+    inl (one bytes bodies (spelled (header_of layout) S.records) content (bodies_content shape layout bytes _ of_ has))
 there shape one layout of_ S (Some rec) is bytes bodies (inr has) content =
     inr (
       rec,
       is,
-      one bytes bodies (map record_spelled (S.records ++ rec ∷ [])) content (bodies_content shape layout bytes _ of_ has),
+      one bytes bodies (spelled (header_of layout) (S.records ++ rec ∷ [])) content (bodies_content shape layout bytes _ of_ has),
     )
 
-pub found_there : (S : Standing) (bodies : List (List ℕ)) → AreThere S bodies → AreFound S (length bodies)
-found_there S bodies (inl is) = inl (ap length is ∙ length-map S.records record_spelled)
-found_there S bodies (inr behind) =
+pub found_there : (header : Format) (S : Standing) (bodies : List (List ℕ)) → AreThere header S bodies
+    → AreFound S (length bodies)
+found_there header S bodies (inl is) = inl (ap length is ∙ length-spelled header S.records)
+found_there header S bodies (inr behind) =
     inr (
       ap is_some behind.1,
       omega (
         arith,
         ap length behind.2,
-        length-map (S.records ++ behind.0 ∷ []) record_spelled,
+        length-spelled header (S.records ++ behind.0 ∷ []),
         length-append S.records (behind.0 ∷ []),
       ),
     )
 
 -- the count tells which
-settled_there : (catalog : Catalog) (i : SiteId) (S : Standing) (kept : Option Record) (bodies : List (List ℕ))
-    → AreThere S bodies → IfSome kept (IsFound S Restart) → length bodies ≡ length (settled catalog i kept S).records
-    → bodies ≡ map record_spelled (settled catalog i kept S).records
-settled_there catalog i S None bodies (inl is) found count = is
-settled_there catalog i S None bodies (inr behind) found count =
+settled_there : (header : Format) (catalog : Catalog) (i : SiteId) (S : Standing) (kept : Option Record) (bodies : List (List ℕ))
+    → AreThere header S bodies → IfSome kept (IsFound S Restart) → length bodies ≡ length (settled catalog i kept S).records
+    → bodies ≡ spelled header (settled catalog i kept S).records
+settled_there header catalog i S None bodies (inl is) found count = is
+settled_there header catalog i S None bodies (inr behind) found count =
     absurd (omega (
       arith,
       count,
       ap length behind.2,
-      length-map (S.records ++ behind.0 ∷ []) record_spelled,
+      length-spelled header (S.records ++ behind.0 ∷ []),
       length-append S.records (behind.0 ∷ []),
     ))
-settled_there catalog i S (Some rec) bodies (inl is) found count =
+settled_there header catalog i S (Some rec) bodies (inl is) found count =
     absurd (omega (
       arith,
       count,
       ap length is,
-      length-map S.records record_spelled,
+      length-spelled header S.records,
       length-append S.records (rec ∷ []),
     ))
-settled_there catalog i S (Some rec) bodies (inr behind) found count =
+settled_there header catalog i S (Some rec) bodies (inr behind) found count =
     let named : Some behind.0 ≡ Some rec = sym behind.1 ∙ found.in_flight in
     let same : behind.0 ≡ rec = cc in
-    subst (λ (r : Record). bodies ≡ map record_spelled (S.records ++ r ∷ [])) same behind.2
+    subst (λ (r : Record). bodies ≡ spelled header (S.records ++ r ∷ [])) same behind.2
 
 settled_up : (catalog : Catalog) (i : SiteId) (S : Standing) (kept : Option Record)
     → (settled catalog i kept S).up ≡ S.up
 settled_up catalog i S None = refl
 settled_up catalog i S (Some rec) = refl
 
-has_spelling : (sites : ℕ) (S : Standing) (kept : Option Record) → AreSpelled sites S → IfSome kept (IsFound S Restart)
-    → IfSome kept (HasRecordSpelling sites)
-has_spelling sites S None all found = tt
-has_spelling sites S (Some rec) all found =
-    subst (λ (f : Option Record). IfSome f (HasRecordSpelling sites)) found.in_flight all.flight
+has_spelling : (header : Format) (sites : ℕ) (S : Standing) (kept : Option Record) → AreSpelled header sites S
+    → IfSome kept (IsFound S Restart) → IfSome kept (Behind header sites S.records None)
+has_spelling header sites S None all found = tt
+has_spelling header sites S (Some rec) all found =
+    subst (λ (f : Option Record). IfSome f (Behind header sites S.records None)) found.in_flight all.flight
 
 -- ---- what it comes to
 
@@ -153,7 +155,7 @@ with_kept catalog layout i S event came kept (Comes.full rec brings less is) =
 
 -- bytes with bodies for which it is refused
 refused_for : (catalog : Catalog) (shape : Shape) (i : SiteId) (bytes : List ℕ) (bodies : List (List ℕ))
-    (why : RefusedRestart) → HasContent shape bytes bodies → IsRefusedOver catalog i bodies why
+    (why : RefusedRestart) → HasContent shape bytes bodies → IsRefusedOver First catalog i bodies why
     → IsRefusedFor catalog shape i bytes why
 refused_for catalog shape i bytes bodies refused.Foreign content over = absurd over
 refused_for catalog shape i bytes bodies (refused.Damaged at length) content over = absurd over
@@ -214,9 +216,9 @@ not_wrong P (Some bytes) images differ told image are = differ bytes image are
 
 some_bodies : (layout : Layout) (records : List Record) (flight : Option Record) (bytes : List ℕ)
     → MayHaveRecords layout records flight bytes → (bodies : List (List ℕ)) × HasBodies layout bytes bodies
-some_bodies layout records None bytes has = (map record_spelled records, has)
-some_bodies layout records (Some rec) bytes (inl has) = (map record_spelled records, has)
-some_bodies layout records (Some rec) bytes (inr has) = (map record_spelled (records ++ rec ∷ []), has)
+some_bodies layout records None bytes has = (spelled (header_of layout) records, has)
+some_bodies layout records (Some rec) bytes (inl has) = (spelled (header_of layout) records, has)
+some_bodies layout records (Some rec) bytes (inr has) = (spelled (header_of layout) (records ++ rec ∷ []), has)
 
 module _ {D : Type 0} {g : Ghosts D} where
   -- the engine over what was left
@@ -226,7 +228,7 @@ module _ {D : Type 0} {g : Ghosts D} where
       → Stands engine T
   stands_left engine T book layout same left book_is disk_is = record {
     machine = left.machine;
-    spelled = left.spelled;
+    spellings = subst (λ (l : Layout). AreSpelled (header_of l) (catalog_in engine).sites T) (sym same) left.spellings;
     stored = subst (λ (l : Layout). IsStored {g = g} l T engine.book engine.disk) (sym same)
         (subst (λ o. IsStored {g = g} layout T o engine.disk) (sym book_is)
         (subst (λ o. IsStored {g = g} layout T (book_if (is_up engine.machine) book) o) (sym disk_is) left.stored));
@@ -234,7 +236,8 @@ module _ {D : Type 0} {g : Ghosts D} where
 
   -- ---- over a book that was loaded
 
-  module _ (shape : Shape) (one : OneContent shape) (layout : Layout) (of_ : IsLayoutOf shape layout) (S : Standing)
+  module _ (shape : Shape) (one : OneContent shape) (layout : Layout) (of_ : IsLayoutOf shape layout)
+      (first : header_of layout ≡ First) (S : Standing)
       (disk : D) (book : Book D g) (shape_is : shape_of book ≡ shape) (bodies : List (List ℕ))
       (resting : IsOnDisk g layout S disk) (image : IsImage (g.known (disk_of book)).reads (g.may_leave disk))
       (stands : StandsFor book bodies) where
@@ -249,7 +252,7 @@ module _ {D : Type 0} {g : Ghosts D} where
     unfolding bytes
     now = subst (λ (s : Shape). HasBodies (layout_by s book.live) bytes bodies) shape_is (reads_bodies g book bodies stands)
 
-    pub there_loaded : AreThere S bodies
+    pub there_loaded : AreThere (header_of layout) S bodies
     there_loaded =
         there shape one layout of_ S S.flight refl bytes bodies was
         (bodies_content shape (layout_by shape book.live) bytes bodies (laid_is shape book.live) now)
@@ -259,18 +262,19 @@ module _ {D : Type 0} {g : Ghosts D} where
     laid_loaded =
         let some = some_bodies layout S.records S.flight bytes was in
         ap (λ (s : Shape). layout_by s book.live) shape_is
-        ∙ one_layout shape layout book.live bytes some.0 bodies of_ some.1 now
+        ∙ one_layout shape layout book.live bytes some.0 bodies of_ first some.1 now
 
     -- behind the count of the bodies
-    pub lies_settled : (catalog : Catalog) (i : SiteId) (kept : Option Record) → AreSpelled catalog.sites S → S.up ≡ false
+    pub lies_settled : (catalog : Catalog) (i : SiteId) (kept : Option Record) → AreSpelled (header_of layout) catalog.sites S
+        → S.up ≡ false
         → AreTold catalog i (settled catalog i kept S) → IfSome kept (IsFound S Restart)
         → length bodies ≡ length (settled catalog i kept S).records
         → LiesIn {g = g} catalog layout i (settled catalog i kept S) book bodies
-    lies_settled catalog i kept spelled down told found count = record {
+    lies_settled catalog i kept spellings down told found count = record {
       down = settled_up catalog i S kept ∙ down;
       told = told;
       spelled = spelled_settled catalog.sites catalog i S kept spelled (has_spelling catalog.sites S kept spelled found);
-      is = settled_there catalog i S kept bodies there_loaded found count;
+      is = settled_there header catalog i S kept bodies there_loaded found count;
       laid = laid_loaded;
       stands = stands;
     }
@@ -309,7 +313,7 @@ module _ {D : Type 0} {g : Ghosts D} where
       (bodies : List (List ℕ)) (why : Option RefusedRestart) → shape_of book ≡ shape
       → (IsSome (g.known disk).reads → StandsFor book bodies)
       → is_some (g.known (disk_of book)).reads ≡ is_some (g.known disk).reads
-      → IfSome why (λ cause. (after ≡ disk_of book) × IsRefusedOver catalog i bodies cause)
+      → IfSome why (λ cause. (after ≡ disk_of book) × IsRefusedOver First catalog i bodies cause)
       → IfSome (g.known after).reads (λ bytes. IfSome why (IsRefusedFor catalog shape i bytes))
   refused_loaded catalog shape i disk after book bodies None shape_is loaded tells over =
       always _ (g.known after).reads (λ bytes. tt)
@@ -423,7 +427,8 @@ module _ {D : Type 0} (g : Ghosts D) where
       → (IsSome (g.known disk).reads → StandsFor book bodies) → ((g.known disk).size ≡ 0 → bodies ≡ [])
       → ((g.known disk).size ≡ 0 → layout_of book ≡ asked)
       → (0 < (g.known disk).size → IsImage (g.known (disk_of book)).reads (g.may_leave disk))
-      → ComesOf catalog i (left_over (layout_of book) bodies) bodies came.wrote why came.outcome
+      → ComesOf (header_of (layout_of book)) catalog i (left_over (layout_of book) bodies) bodies
+      came.wrote why came.outcome
       → IfSome (g.known disk).reads (λ bytes. RestartsOver catalog shape asked i bytes (g.may_leave disk) came why)
   restarts_loaded size_is catalog shape asked i disk book bodies came why shape_is loaded fresh new image comes =
       at (g.known disk).reads refl
@@ -434,8 +439,8 @@ module _ {D : Type 0} (g : Ghosts D) where
       at (Some []) told =
           let none = size_told g size_is disk [] told in
           RestartsOver.over_none refl
-          (subst (λ b. ComesOf catalog i (left_over asked b) b came.wrote why came.outcome) (fresh none)
-          (subst (λ (l : Layout). ComesOf catalog i (left_over l bodies) bodies came.wrote why came.outcome) (new none) comes))
+          (subst (λ b. ComesOf (header_of asked) catalog i (left_over asked b) b came.wrote why came.outcome) (fresh none)
+          (subst (λ (l : Layout). ComesOf (header_of l) catalog i (left_over l bodies) bodies came.wrote why came.outcome) (new none) comes))
       at (Some (byte ∷ bytes)) told =
           let stands = loaded (ap is_some told) in
           let some = image (omega (arith, size_told g size_is disk (byte ∷ bytes) told)) in
@@ -443,5 +448,5 @@ module _ {D : Type 0} (g : Ghosts D) where
           (subst (λ r. IsImage r (g.may_leave disk)) stands.with.stands.told some)
           (subst (λ (s : Shape). HasBodies (layout_by s book.live) stands.with.stands.bytes bodies) shape_is
           (reads_bodies g book bodies stands))
-          (subst (λ (s : Shape). ComesOf catalog i (left_over (layout_by s book.live) bodies) bodies came.wrote why came.outcome)
+          (subst (λ (s : Shape). ComesOf (header_of (layout_by s book.live)) catalog i (left_over (layout_by s book.live) bodies) bodies came.wrote why came.outcome)
           shape_is comes)

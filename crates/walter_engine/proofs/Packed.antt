@@ -1,6 +1,7 @@
 -- What a pack of all bodies leaves of a book.
 use Rattle.std.proofs.Common.{◌≡◌, ◌≢◌, ℕ, ◌+◌, ◌-◌, List, [], ◌∷◌, ◌++◌, length, Option, Some, None, Result, Ok, Err, refl, ap, sym, ◌∙◌, subst, arith, append-nil, length-append}
 use Rattle.std.specs.Prelude.{◌≤◌, true, false, is_err, IfSome, OnErr, OnOk}
+use Rattle.walter_base.specs.declared.format.Format.{Format}
 use Rattle.walter_base.specs.declared.message.Record.{Record}
 use Rattle.walter_checkpoint.specs.Areas.{Shape}
 use Rattle.walter_checkpoint.specs.Books.{disk_of, shape_of, calls_of_pack, left_of, front_length, limit_of, live_after, ChangesFrom, GoesOn, GoesOnBehind, StandsFor, HasRoom, HasRoomBehind}
@@ -135,12 +136,13 @@ module _ {D : Type 0} {g : Ghosts D} where
   }
 
   -- a record that was spelled for a book finds room in its pack
-  pub spelled_packed : (old new : Book D g) (rec : Option Record) (body : Option (List ℕ)) → IsSpellingIfAny old rec body
-      → HasRoomIfAny old body → ((n : ℕ) → HasRoomBehind old n → HasRoom new n) → IsSpellingIfAny new rec body
-  spelled_packed old new None None spelled room packed = tt
-  spelled_packed old new None (Some body) spelled room packed = absurd spelled
-  spelled_packed old new (Some rec) None spelled room packed = absurd spelled
-  spelled_packed old new (Some rec) (Some body) spelled room packed =
+  pub spelled_packed : (format : Format) (old new : Book D g) (rec : Option Record) (body : Option (List ℕ))
+      → IsSpellingIfAny format old rec body → HasRoomIfAny old body → ((n : ℕ) → HasRoomBehind old n → HasRoom new n)
+      → IsSpellingIfAny format new rec body
+  spelled_packed format old new None None spelled room packed = tt
+  spelled_packed format old new None (Some body) spelled room packed = absurd spelled
+  spelled_packed format old new (Some rec) None spelled room packed = absurd spelled
+  spelled_packed format old new (Some rec) (Some body) spelled room packed =
       record { is = spelled.is; ranges = spelled.ranges; room = packed (length body) room }
 
   -- what a pack that was made leaves

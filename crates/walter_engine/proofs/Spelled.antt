@@ -1,10 +1,11 @@
 -- Which records have a spelling, and how they are spelled behind each other.
-use Rattle.std.proofs.Common.{◌≡◌, ◌≤◌, ℕ, List, [], ◌∷◌, ◌++◌, map, Option, Some, None, ap, sym, ◌∙◌, subst}
+use Rattle.std.proofs.Common.{◌≡◌, ◌≤◌, ℕ, suc, List, [], ◌∷◌, ◌++◌, length, map, Option, Some, None, refl, ap, sym, ◌∙◌, subst, arith}
 use Rattle.std.specs.Prelude.{All, IfSome}
-use Rattle.std.proofs.lemmas.List.{map-append}
+use Rattle.std.proofs.lemmas.List.{length-map, map-append}
 use Rattle.std.proofs.lemmas.List.Elements.{All-push}
 use Rattle.walter_base.specs.declared.catalog.Catalog.{Catalog}
 use Rattle.walter_base.specs.declared.format.Format.{Format}
+use Rattle.walter_base.specs.declared.format.Format.TheVariants.{First, Second}
 use Rattle.walter_base.specs.declared.message.Record.{Record}
 use Rattle.walter_base.specs.declared.message.Record.TheVariants.{Own, Got, SlowBegin}
 use Rattle.walter_base.specs.declared.names.SiteId.{SiteId}
@@ -15,6 +16,7 @@ use Rattle.walter_machine.specs.States.{AreTold}
 use Rattle.walter_rules.proofs.Placed.{placed-push, format_told}
 use Rattle.walter_rules.specs.Knowledge.{Knowledge}
 use Rattle.walter_rules.specs.Layouts.{in_force, placed, format_at}
+use Rattle.walter_rules.specs.Learning.{format_behind}
 use Rattle.walter_rules.specs.declared.entry.Came.{Came}
 use Rattle.walter_rules.specs.declared.event.Event.{Event}
 use Rattle.walter_rules.specs.declared.outcome.Outcome.{Outcome}
@@ -40,6 +42,11 @@ spelled_among format sites (SlowBegin slow tx) fits is ranges =
     record { fits = fits; among = is.0; sizes = is.1; ranges = ranges }
 spelled_among format sites rec fits is ranges = record { fits = fits; among = tt; sizes = is; ranges = ranges }
 
+-- the second format has a place for as many sites as the first, and more
+pub enough_in : (format : Format) {sites : ℕ} → sites ≤ most_in First → sites ≤ most_in format
+enough_in First few = few
+enough_in Second few = omega (arith, few)
+
 -- by what its records tell, the format in force at a site is the one behind them
 pub told_format : (header : Format) (catalog : Catalog) (i : SiteId) (S : Standing) → AreTold catalog i S
     → in_force header S.knows.format ≡ format_at header S.records
@@ -52,6 +59,13 @@ pub spelled-push : (header : Format) (records : List Record) (rec : Record)
 spelled-push header records rec =
     ap (map spelled_there) (placed-push header records rec)
     ∙ map-append spelled_there (placed header records) ((format_at header records, rec) ∷ [])
+
+pub length-spelled : (header : Format) (records : List Record) → length (spelled header records) ≡ length records
+length-spelled header records = length-map (placed header records) spelled_there ∙ length-placed header records
+  where
+    length-placed : (format : Format) (rs : List Record) → length (placed format rs) ≡ length rs
+    length-placed format [] = refl
+    length-placed format (rec ∷ rs) = ap (λ n. suc n) (length-placed (format_behind rec format) rs)
 
 pub have_more : (header : Format) (sites : ℕ) (records : List Record) (rec : Record) → HaveSpellings header sites records
     → HasRecordSpelling (format_at header records) sites rec → HaveSpellings header sites (records ++ rec ∷ [])

@@ -2,6 +2,7 @@
 use Rattle.std.proofs.Common.{◌≡◌, List, Bool, true, false, Option, Some, None, refl, ap, sym, ◌∙◌, subst, inl, inr}
 use Rattle.std.specs.Prelude.{IfSome, is_some}
 use Rattle.walter_base.specs.declared.catalog.Catalog.{Catalog}
+use Rattle.walter_base.specs.declared.format.Format.{Format}
 use Rattle.walter_base.specs.declared.message.Record.{Record}
 use Rattle.walter_base.specs.declared.names.SiteId.{SiteId}
 use Rattle.walter_disk.specs.declared.disk.Disk.{Ghosts}
@@ -9,7 +10,7 @@ use Rattle.walter_engine.specs.declared.engine.Engine.{Engine}
 use Rattle.walter_engine.specs.Contents.{AreSpelled, MayHaveRecords}
 use Rattle.walter_engine.specs.Stores.{IsStored}
 use Rattle.walter_checkpoint.specs.declared.book.Book.{Book}
-use Rattle.walter_engine.proofs.Spelled.{spelled_after}
+use Rattle.walter_engine.proofs.Spelled.{Behind, spelled_after}
 use Rattle.walter_engine.proofs.Written.{holds_none}
 use Rattle.walter_engine.specs.Effects.{HasCome}
 use Rattle.walter_engine.specs.Engines.{Stands, catalog_in, layout_in}
@@ -18,12 +19,11 @@ use Rattle.walter_rules.specs.declared.event.Event.{Event}
 use Rattle.walter_rules.specs.declared.event.Event.TheVariants.{Stop, Restart}
 use Rattle.walter_machine.specs.Machines.{HasStanding, IsCounted}
 use Rattle.walter_machine.specs.declared.machine.Machine.{Machine}
-use Rattle.walter_record.specs.Spelling.{HasRecordSpelling}
 use Rattle.walter_rules.proofs.RulesAllowed.{rule_allowed}
 use Rattle.walter_rules.specs.declared.outcome.Outcome.{Outcome}
 use Rattle.walter_rules.specs.declared.outcome.Outcome.TheVariants.{Full}
 use Rattle.walter_rules.specs.Allowed.{IsKind, boots}
-use Rattle.walter_rules.specs.Layouts.{Layout}
+use Rattle.walter_rules.specs.Layouts.{Layout, header_of}
 use Rattle.walter_rules.specs.Rule.{rule, stop_rule}
 use Rattle.walter_rules.specs.Standing.{Standing, settled, stands_after, records_after, flight_after}
 use Rattle.walter_rules.specs.Trails.{Comes, IsFound}
@@ -41,8 +41,9 @@ if_twice None R so = tt
 if_twice (Some x) R so = so x
 
 -- a stop brings no record
-pub stop_brings : (catalog : Catalog) (i : SiteId) (S : Standing) → (rule catalog i S Stop).wrote ≡ None
-stop_brings catalog i S = at S.up
+pub stop_brings : (header : Format) (catalog : Catalog) (i : SiteId) (S : Standing)
+    → (rule header catalog i S Stop).wrote ≡ None
+stop_brings header catalog i S = at S.up
   where
     at : (up : Bool) → (stop_rule up).wrote ≡ None
     at true = refl
@@ -57,11 +58,11 @@ kind_fits : (catalog : Catalog) (i : SiteId) (S : Standing) (event : Event) (wro
 kind_fits catalog i S event wrote outcome (boots down) = refl
 kind_fits catalog i S event wrote outcome kind = refl
 
-pub rule_fits : (catalog : Catalog) (i : SiteId) (S : Standing) (event : Event)
-    → is_full (rule catalog i S event).outcome ≡ false
-rule_fits catalog i S event =
-    kind_fits catalog i S event (rule catalog i S event).wrote (rule catalog i S event).outcome
-    (rule_allowed catalog i S event).0.kind
+pub rule_fits : (header : Format) (catalog : Catalog) (i : SiteId) (S : Standing) (event : Event)
+    → is_full (rule header catalog i S event).outcome ≡ false
+rule_fits header catalog i S event =
+    kind_fits catalog i S event (rule header catalog i S event).wrote (rule header catalog i S event).outcome
+    (rule_allowed header catalog i S event).0.kind
 
 flight_stays : (outcome : Outcome) (old : Option Record) → is_full outcome ≡ false
     → flight_after None None outcome old ≡ old
@@ -83,15 +84,17 @@ module _ {D : Type 0} {g : Ghosts D} where
 
   -- what comes without a record to a site that is down leaves the records where they are
   pub stands_same : (engine : Engine D g) (catalog : Catalog) (i : SiteId) (S : Standing) (event : Event) (came : Came)
-      → HasStanding engine.machine (stands_after catalog i S event came) → AreSpelled (catalog_in engine).sites S
-      → (layout : Layout) → layout_in engine ≡ layout → IsStored layout S engine.book engine.disk → is_some engine.book ≡ false
+      → HasStanding engine.machine (stands_after catalog i S event came)
+      → (layout : Layout) → layout_in engine ≡ layout → AreSpelled (header_of layout) (catalog_in engine).sites S
+      → IsStored layout S engine.book engine.disk → is_some engine.book ≡ false
       → came.wrote ≡ None → came.flight ≡ None
       → is_full came.outcome ≡ false → Stands engine (stands_after catalog i S event came)
-  stands_same engine catalog i S event came standing spelled layout same stored closed wrote flight fits = record {
+  stands_same engine catalog i S event came standing layout same spellings stored closed wrote flight fits = record {
     machine = standing;
-    spelled = spelled_after (catalog_in engine).sites catalog i S event came spelled
-        (holds_none (HasRecordSpelling (catalog_in engine).sites) came.wrote wrote)
-        (holds_none (HasRecordSpelling (catalog_in engine).sites) came.flight flight);
+    spellings = subst (λ (l : Layout). AreSpelled (header_of l) (catalog_in engine).sites (stands_after catalog i S event came)) (sym same)
+        (spelled_after (header_of layout) (catalog_in engine).sites catalog i S event came spellings
+        (holds_none (Behind (header_of layout) (catalog_in engine).sites S.records None) came.wrote wrote)
+        (holds_none (Behind (header_of layout) (catalog_in engine).sites S.records came.wrote) came.flight flight));
     stored = subst (λ (l : Layout). IsStored l (stands_after catalog i S event came) engine.book engine.disk) (sym same)
         (stored_as layout S (stands_after catalog i S event came) engine.book engine.disk closed
         (ap (λ (w : Option Record). records_after w S.records) wrote)

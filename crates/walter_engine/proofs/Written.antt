@@ -21,7 +21,7 @@ use Rattle.walter_engine.specs.Writings.{IsSameButRoom, IsSpelling, IsSpellingIf
 use Rattle.walter_engine.proofs.Bodies.{some_is}
 use Rattle.walter_engine.proofs.Resting.{SizeIs, CountsNow, stored, stored_failed, stored_unpacked}
 use Rattle.walter_engine.proofs.Left.{AnyPlain, AnyBoot, IsPlain, IsBoot, brings_plain, brings_boot, stays_down, left_more, left_same}
-use Rattle.walter_engine.proofs.Room.{need_is, fits_format}
+use Rattle.walter_engine.proofs.Room.{need_is, fits_format, fits_among}
 use Rattle.walter_engine.proofs.Spelled.{Behind, spelled-push, spelled_among, spelled_after, told_format}
 use Rattle.walter_journal.specs.declared.fault.AppendFault.{AppendFault}
 use Rattle.walter_journal.specs.declared.fault.AppendFault.TheVariants as append
@@ -33,7 +33,7 @@ use Rattle.walter_machine.specs.States.{AreTold, CanBeNext, IsState}
 use Rattle.walter_machine.specs.Readiness.{rec_in, IsReadyFor, IsReadyAnyway}
 use Rattle.walter_machine.specs.declared.ready.Ready.{Ready}
 use Rattle.walter_machine.specs.Machines.{catalog_in, tables_in, is_up, HasStanding}
-use Rattle.walter_record.specs.Spelling.{record_spelled, HasRecordSpelling, AreInRange}
+use Rattle.walter_record.specs.Spelling.{record_spelled, HasRecordSpelling, AreInRange, FitsFormat}
 use Rattle.walter_rules.specs.declared.entry.Came.{Came}
 use Rattle.walter_rules.specs.declared.event.Event.{Event}
 use Rattle.walter_rules.specs.declared.event.Event.TheVariants.{Given}
@@ -193,6 +193,12 @@ pub sized_flying : (sites : ℕ) (event : Event) (rec : Record) → CanBeRecorde
     → IsSized sites (record (only (failure event rec)) { flight = Some rec })
 sized_flying sites event rec can =
     record { outcome = (failure_is event rec).2; kept = tt; wrote = tt; flight = can; sends = none_sent sites }
+
+-- the next record has its place in the format
+pub fits_next : (format : Format) (catalog : Catalog) (i : SiteId) (S : Standing) (rec : Option Record)
+    → catalog.sites ≤ most_in format → IfSome rec (CanBeNext catalog i S) → IfSome rec (FitsFormat format)
+fits_next format catalog i S None few next = tt
+fits_next format catalog i S (Some rec) few next = fits_among format catalog.sites rec few next.sizes
 
 -- the record of what is ready
 module _ (catalog : Catalog) (layout : Layout) (i : SiteId) (site : Option Tables) (S : Standing) (event : Event)

@@ -12,7 +12,7 @@ ghost use Rattle.walter_engine.specs.Restarts.{ComesOf, left_over};
 ghost use Rattle.walter_engine.specs.Stores.{layout_of};
 ghost use Rattle.walter_machine.specs.Comings.{IsOutcomeAlone, IsSized, IsFaulty};
 ghost use Rattle.walter_machine.specs.Machines.{catalog_in, site_in, tables_in, records_in, is_up, HasStanding, IsSameSite};
-ghost use Rattle.walter_rules.specs.Layouts.{Layout};
+ghost use Rattle.walter_rules.specs.Layouts.{Layout, header_of};
 ghost use Rattle.walter_rules.specs.Standing.{Standing, up_after};
 ghost use Rattle.walter_rules.specs.declared.event.Event.TheVariants as event;
 
@@ -54,7 +54,7 @@ pub(crate) fn raise<D: Disk>(
     ensures refused { IfSome result (λ why. (disk_of book.new ≡ disk_of book.old)
         × IsRefusedOver First (catalog_in machine.old) (site_in machine.old) (map (λ body. body.items) bodies.now) why) }
     // over any bodies
-    ensures over { ComesOf First (catalog_in machine.old) (site_in machine.old)
+    ensures over { ComesOf (header_of (layout_of book.old)) (catalog_in machine.old) (site_in machine.old)
         (left_over (layout_of book.old) (map (λ body. body.items) bodies.now))
         (map (λ body. body.items) bodies.now) came.new.wrote result came.new.outcome }
     ensures up { is_up machine.new ≡ up_after event.Restart came.new.outcome false }

@@ -25,7 +25,7 @@ pub answer_to-requires : goal.answer_to-requires
 answer_to-requires g c =
     let length_is : length c.args.bodies.now ≡ 0 = grind (arith, nat_tests) in
     let none = ap (map (λ body. body.items)) (no_items c.args.bodies.now length_is) in
-    can_answer (catalog_in c.settle.new.self) (site_in c.settle.new.self) (left_over (layout_of c.args.book.now) (map (λ body. body.items) c.args.bodies.now)) (map (λ body. body.items) c.args.bodies.now) c.raise.new.came.wrote c.raise.result c.raise.new.came.outcome
+    can_answer _ (catalog_in c.settle.new.self) (site_in c.settle.new.self) (left_over (layout_of c.args.book.now) (map (λ body. body.items) c.args.bodies.now)) (map (λ body. body.items) c.args.bodies.now) c.raise.new.came.wrote c.raise.result c.raise.new.came.outcome
     (subst (λ (b : List (List ℕ)). 10 ≤ left_over (layout_of c.args.book.now) b) (sym none) c.requires.place) none c.raise.ensures.over
 
 pub returns : goal.returns
@@ -52,7 +52,7 @@ returns g c =
           (λ image may. inr (none, first_next (shape_of c.args.book.now) (catalog_in c.settle.new.self) c.args.book.now.live (site_in c.settle.new.self) image may)) (raised.any_moment (layout_of c.args.book.now) unmade (lies_unmade {g = g.D.Disk} (catalog_in c.settle.new.self) (site_in c.settle.new.self) c.args.book.now (map (λ body. body.items) c.args.bodies.now) none stands));
       faults = answer_faults _ _ _ _ c.answer_to.ensures raised.faults;
       device = answer_taken _ _ _ c.answer_to.ensures (λ taken.
-          calls_written _ _ _ _ (has_written (catalog_in c.settle.new.self) (site_in c.settle.new.self) (left_over (layout_of c.args.book.now) (map (λ body. body.items) c.args.bodies.now)) (map (λ body. body.items) c.args.bodies.now) c.raise.new.came.wrote c.raise.result c.raise.new.came.outcome raised.over taken)
+          calls_written _ _ _ _ (has_written _ (catalog_in c.settle.new.self) (site_in c.settle.new.self) (left_over (layout_of c.args.book.now) (map (λ body. body.items) c.args.bodies.now)) (map (λ body. body.items) c.args.bodies.now) c.raise.new.came.wrote c.raise.result c.raise.new.came.outcome raised.over taken)
           (ap (calls_before c.args.book.now) none) raised.device.all);
       at_most = omega (arith, raised.device.at_most, ap (calls_before c.args.book.now) none);
       arms = raised.arms;

@@ -1,4 +1,5 @@
 use Rattle.std.proofs.Common.{rules, map, sym, ◌∙◌}
+use Rattle.walter_base.specs.declared.format.Format.TheVariants.{First}
 use Rattle.walter_engine.proofs.Raising.{is_ready_over, refused_last}
 use Rattle.walter_engine.proofs.replaying.ready_over.Goals as goal
 use Rattle.walter_rules.specs.Knowledge.{Knowledge, fresh}
@@ -14,11 +15,12 @@ boot-requires c =
 pub returns-in-Ok-boot-clause-ready : goal.returns-in-Ok-boot-clause-ready
 returns-in-Ok-boot-clause-ready c =
     let boot = c.in-Ok-boot.ensures in
-    is_ready_over c.args.catalog.now c.args.id (map (λ body. body.items) c.args.bodies.now) c.in-Ok.tables c.in-Ok-boot.ready
+    is_ready_over First c.args.catalog.now c.args.id (map (λ body. body.items) c.args.bodies.now) c.in-Ok.tables c.in-Ok-boot.ready
     c.in-Ok.ensures.catalog c.in-Ok.ensures.site c.in-Ok.ensures.told boot.anyway boot.ready boot.boots
     (λ last. absurd (let e = sym c.in-Ok-boot.is ∙ c.boot.ensures.takes_none last in cc))
+    c.format.result c.format.ensures
 
 pub returns-in-Err-LastEpoch-clause-refused : goal.returns-in-Err-LastEpoch-clause-refused
 returns-in-Err-LastEpoch-clause-refused c =
-    refused_last c.args.catalog.now c.args.id (map (λ body. body.items) c.args.bodies.now) c.in-Ok.tables c.in-Ok.ensures.told
+    refused_last First c.args.catalog.now c.args.id (map (λ body. body.items) c.args.bodies.now) c.in-Ok.tables c.in-Ok.ensures.told
     (c.in-Err-LastEpoch.ensures.last c.in-Err-LastEpoch.field-0-is)

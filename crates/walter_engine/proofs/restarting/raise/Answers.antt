@@ -2,6 +2,8 @@ use Rattle.std.proofs.Common.{◌≡◌, ◌<◌, map, Bool, true, false, Option
 use Rattle.std.proofs.lemmas.Option.{IfSome_then}
 use Rattle.std.specs.Prelude.{IfSome, is_some}
 use Rattle.walter_base.specs.declared.catalog.Catalog.{Catalog}
+use Rattle.walter_base.specs.declared.format.Format.{Format}
+use Rattle.walter_base.specs.declared.format.Format.TheVariants.{First}
 use Rattle.walter_base.specs.declared.message.Record.{Record}
 use Rattle.walter_base.specs.declared.names.SiteId.{SiteId}
 use Rattle.walter_checkpoint.specs.Books.{disk_of, shape_of}
@@ -10,10 +12,12 @@ use Rattle.walter_disk.specs.Disks.{DiskState}
 use Rattle.walter_disk.specs.Images.{LeavesOnly}
 use Rattle.walter_engine.proofs.Crashes.{stays_next}
 use Rattle.walter_engine.proofs.Packed.{made, unmade, for_shape, calls_behind, calls_before_same, goes_on_same, spelled_packed}
-use Rattle.walter_engine.proofs.Raising.{rises, comes_of, comes_hindered, hindered_is, knows_here, stands_here, kept_here, rests_next, raises_hindered, raises_wanting, raises_unpacked, packed_next}
+use Rattle.walter_engine.proofs.Laid.{laid_header}
+use Rattle.walter_engine.proofs.Raising.{over_here, refused_here, format_here, rises, comes_of, comes_hindered, hindered_is, knows_here, stands_here, kept_here, rests_next, raises_hindered, raises_wanting, raises_unpacked, packed_next}
 use Rattle.walter_engine.proofs.Room.{IsFor}
 use Rattle.walter_engine.proofs.Taking.{same_parts}
-use Rattle.walter_engine.proofs.Written.{faults_as, same_faults, same_layout, sized_as}
+use Rattle.walter_engine.proofs.Spelled.{enough_in}
+use Rattle.walter_engine.proofs.Written.{fits_next, faults_as, same_faults, same_layout, sized_as}
 use Rattle.walter_engine.proofs.restarting.raise.Goals as goal
 use Rattle.walter_engine.specs.Contents.{AreSpelled, MayHaveNext}
 use Rattle.walter_engine.specs.Effects.{IsRefusedOver}
@@ -25,13 +29,13 @@ use Rattle.walter_engine.specs.Writings.{IsOutcomeOf}
 use Rattle.walter_machine.proofs.Sizes.{sized_only}
 use Rattle.walter_machine.specs.Comings.{is_faulty, IsSized}
 use Rattle.walter_machine.specs.Machines.{catalog_in, site_in, tables_in, records_in, HasStanding, IsCounted}
-use Rattle.walter_machine.specs.Readiness.{IsReadyFor, IsReadyAnyway}
+use Rattle.walter_machine.specs.Readiness.{rec_in, IsReadyFor, IsReadyAnyway}
 use Rattle.walter_rules.specs.declared.entry.Came.{Came}
 use Rattle.walter_rules.specs.declared.event.Event.TheVariants.{Restart}
 use Rattle.walter_rules.specs.declared.outcome.Outcome.{Outcome}
 use Rattle.walter_rules.specs.declared.outcome.Outcome.TheVariants.{Failed, Memory}
 use Rattle.walter_rules.specs.Knowledge.{Knowledge}
-use Rattle.walter_rules.specs.Layouts.{Layout}
+use Rattle.walter_rules.specs.Layouts.{Layout, header_of}
 use Rattle.walter_rules.specs.Standing.{stands_after, up_after}
 use Rattle.walter_rules.specs.Trails.{Comes, only, TakesMemory}
 use Rattle.walter_tables.specs.declared.tables.Tables.{Tables}
@@ -42,7 +46,7 @@ ready_over-requires-clause-here g c =
 
 pub ready_over-requires-clause-most : goal.ready_over-requires-clause-most
 ready_over-requires-clause-most g c =
-    omega (arith, ap (λ (x : Catalog). x.sites) c.catalog.ensures, c.args.machine.now.most)
+    omega (arith, ap (λ (x : Catalog). x.sites) c.catalog.ensures, c.requires.most)
 
 pub ready_over-requires-clause-fewer : goal.ready_over-requires-clause-fewer
 ready_over-requires-clause-fewer g c =
@@ -64,7 +68,7 @@ returns-in_default g c =
       any_moment = λ layout S lies.
           rests_next {g = g.D.Disk} (catalog_in m) layout (site_in m) S c.args.book.now bodies lies g.met.D.Disk.only_now;
       refused = tt;
-      over = comes_hindered (catalog_in m) (site_in m) _ bodies _ _ None tt (ap (λ (x : Came). x.outcome) came);
+      over = comes_hindered _ (catalog_in m) (site_in m) _ bodies _ _ None tt (ap (λ (x : Came). x.outcome) came);
       up = ap is_some (room.tables ∙ c.requires.down) ∙ sym (ap (λ (x : Came). up_after Restart x.outcome false) came);
       sized = sized_as _ c.want.new.came _ came (sized_only _ Memory tt);
       none_sent = ap (λ (x : Came). x.sends) came;
@@ -77,10 +81,15 @@ returns-in_default g c =
       same = record { catalog = room.same.catalog; id = room.same.id };
     }
 
-pub spell_any-requires : goal.spell_any-requires
-spell_any-requires g c =
-    let over = same_parts (λ x k. IsReadyOver x k (map (λ body. body.items) c.args.bodies.now) c.in-Ok.ready) c.catalog.result.now (catalog_in c.args.machine.now) c.id.result (site_in c.args.machine.now) (sym c.catalog.ensures) (sym c.id.ensures) c.in-Ok.ensures.ready in
-    over.anyway.ready_for.sized.wrote
+pub spell_any-requires-clause-sized : goal.spell_any-requires-clause-sized
+spell_any-requires-clause-sized g c = c.in-Ok.ensures.ready.anyway.ready_for.sized.wrote
+
+pub spell_any-requires-clause-fits : goal.spell_any-requires-clause-fits
+spell_any-requires-clause-fits g c =
+    let over = c.in-Ok.ensures.ready in
+    fits_next c.in-Ok.format c.catalog.result.now c.id.result over.anyway.S (rec_in c.in-Ok.ready)
+    (enough_in c.in-Ok.format (omega (arith, ap (λ (x : Catalog). x.sites) c.catalog.ensures, c.requires.most)))
+    over.anyway.ready_for.next
 
 -- memory ran out
 pub returns-in_default-spell_any : goal.returns-in_default-spell_any
@@ -100,7 +109,7 @@ returns-in_default-spell_any g c =
           stays_next {g = g.D.Disk} (catalog_in m) layout (site_in m) S Restart c.args.book.now lies.laid
           (stands_here {g = g.D.Disk} (catalog_in m) layout (site_in m) S c.args.book.now (map (λ body. body.items) c.args.bodies.now) lies) c.spell_any.new.book same;
       refused = tt;
-      over = subst (λ (o : Outcome). ComesOf (catalog_in m) (site_in m) (left_over (layout_of c.args.book.now) (map (λ body. body.items) c.args.bodies.now)) (map (λ body. body.items) c.args.bodies.now) wanting.new.came.wrote None o) (sym (ap (λ (x : Came). x.outcome) came)) refl;
+      over = subst (λ (o : Outcome). ComesOf (header_of (layout_of c.args.book.now)) (catalog_in m) (site_in m) (left_over (layout_of c.args.book.now) (map (λ body. body.items) c.args.bodies.now)) (map (λ body. body.items) c.args.bodies.now) wanting.new.came.wrote None o) (sym (ap (λ (x : Came). x.outcome) came)) refl;
       up = ap is_some (room.tables ∙ c.requires.down) ∙ sym (ap (λ (x : Came). up_after Restart x.outcome false) came);
       sized = sized_as _ wanting.new.came _ came (sized_only _ Memory tt);
       none_sent = ap (λ (x : Came). x.sends) came;
@@ -143,7 +152,7 @@ returns-then-is_err g c =
           packed_next {g = g.D.Disk} (catalog_in m) layout (site_in m) S c.args.book.now bodies lies c.spell_any.new.book same (disk_of c.pack_any.new.book)
           (c.pack_any.ensures.any_moment (same.book.stands bodies lies.stands));
       refused = tt;
-      over = subst (λ (o : Outcome). ComesOf (catalog_in m) (site_in m) (left_over (layout_of c.args.book.now) bodies) bodies c.rest-then-is_err.new.came.wrote None o) (sym (ap (λ (x : Came). x.outcome) came)) refl;
+      over = subst (λ (o : Outcome). ComesOf (header_of (layout_of c.args.book.now)) (catalog_in m) (site_in m) (left_over (layout_of c.args.book.now) bodies) bodies c.rest-then-is_err.new.came.wrote None o) (sym (ap (λ (x : Came). x.outcome) came)) refl;
       up = ap is_some (room.tables ∙ c.requires.down) ∙ sym (ap (λ (x : Came). up_after Restart x.outcome false) came);
       sized = sized_as _ c.rest-then-is_err.new.came _ came (sized_only _ Failed tt);
       none_sent = ap (λ (x : Came). x.sends) came;
@@ -159,7 +168,7 @@ returns-then-is_err g c =
 
 pub put-requires-clause-anyway : goal.put-requires-clause-anyway
 put-requires-clause-anyway g c =
-    let over = same_parts (λ x k. IsReadyOver x k (map (λ body. body.items) c.args.bodies.now) c.in-Ok.ready) c.catalog.result.now (catalog_in c.args.machine.now) c.id.result (site_in c.args.machine.now) (sym c.catalog.ensures) (sym c.id.ensures) c.in-Ok.ensures.ready in
+    let over = same_parts (λ x k. IsReadyOver First x k (map (λ body. body.items) c.args.bodies.now) c.in-Ok.ready c.in-Ok.format) c.catalog.result.now (catalog_in c.args.machine.now) c.id.result (site_in c.args.machine.now) (sym c.catalog.ensures) (sym c.id.ensures) c.in-Ok.ensures.ready in
     let m = c.args.machine.now in
     let m1 = c.make_room.new.self in
     let room = c.make_room.ensures in
@@ -175,8 +184,13 @@ put-requires-clause-countable g c some =
 pub put-requires-clause-spelled : goal.put-requires-clause-spelled
 put-requires-clause-spelled g c =
     let packed = made c.pack_any.result (sym c.is_err.ensures.value ∙ c.if-is_err.false) c.pack_any.ensures.packed in
-    spelled_packed {g = g.D.Disk} c.spell_any.new.book c.pack_any.new.book _ c.in-Ok-spell_any.body c.in-Ok-spell_any.ensures.spelled
+    spelled_packed {g = g.D.Disk} c.in-Ok.format c.spell_any.new.book c.pack_any.new.book _ c.in-Ok-spell_any.body c.in-Ok-spell_any.ensures.spelled
     (c.in-Ok-spell_any.ensures.behind (map (λ body. body.items) c.args.bodies.now) c.requires.ready) packed.room
+
+pub put-requires-clause-sites : goal.put-requires-clause-sites
+put-requires-clause-sites g c =
+    enough_in c.in-Ok.format
+    (omega (arith, ap (λ (x : Catalog). x.sites) c.make_room.ensures.same.catalog, c.requires.most))
 
 pub returns : goal.returns
 returns g c =
@@ -190,33 +204,42 @@ returns g c =
     let ready = c.in-Ok.ready in
     let same = c.spell_any.ensures.same in
     let packed = made c.pack_any.result (sym c.is_err.ensures.value ∙ c.if-is_err.false) c.pack_any.ensures.packed in
-    let over = same_parts (λ x k. IsReadyOver x k bodies ready) c.catalog.result.now catalog c.id.result i (sym c.catalog.ensures) (sym c.id.ensures) c.in-Ok.ensures.ready in
+    let format = c.in-Ok.format in
+    let told = same_parts (λ x k. IsReadyOver First x k bodies ready format) c.catalog.result.now catalog c.id.result i (sym c.catalog.ensures) (sym c.id.ensures) c.in-Ok.ensures.ready in
+    let over = subst (λ (h : Format). IsReadyOver h catalog i bodies ready format)
+    (sym (laid_header (shape_of c.args.book.now) c.args.book.now.live)) told in
     let laid = same_layout {g = g.D.Disk} c.args.book.now c.spell_any.new.book same.book.shape same.book.live in
     let device = made c.pack_any.result (sym c.is_err.ensures.value ∙ c.if-is_err.false) c.pack_any.ensures.device in
     let calls = calls_before_same {g = g.D.Disk} c.args.book.now c.spell_any.new.book same bodies in
     record {
       raises = λ layout S lies standing count.
+          let over = over_here {g = g.D.Disk} catalog layout i S c.args.book.now bodies lies ready format told in
+          let at = format_here {g = g.D.Disk} catalog layout i S c.args.book.now bodies lies over.records over.tell format over.told in
           let knows = knows_here {g = g.D.Disk} catalog layout i S c.args.book.now bodies lies over.records over.tell in
-          let ready_for = same_parts (λ x k. IsReadyFor x k (tables_in m1) S Restart ready) catalog (catalog_in m1) i (site_in m1) room.same.catalog room.same.id
-          (subst (λ (o : Option Tables). IsReadyFor catalog i o S Restart ready) (sym down) (over.ready_for S lies.down knows)) in
+          let ready_for = same_parts (λ x k. IsReadyFor (header_of layout) x k (tables_in m1) S Restart ready) catalog (catalog_in m1) i (site_in m1) room.same.catalog room.same.id
+          (subst (λ (o : Option Tables). IsReadyFor (header_of layout) catalog i o S Restart ready) (sym down)
+          (over.ready_for (header_of layout) S lies.down knows)) in
           let counted = subst (λ (o : Option Record). IsCounted m1 S o) (sym over.boots) (room.records ∙ count) in
           let kept = kept_here {g = g.D.Disk} catalog layout i S c.args.book.now bodies lies (shape_of c.args.book.now).sites
           (subst (IsFor (shape_of c.args.book.now).sites) lies.laid (for_shape (shape_of c.args.book.now) c.args.book.now.live))
           c.requires.sites c.spell_any.new.book c.pack_any.new.book same packed in
-          let spelled = subst (λ (x : Catalog). AreSpelled x.sites S) (sym room.same.catalog) lies.spelled in
+          let spelled = subst (λ (x : Catalog). AreSpelled (header_of layout) x.sites S) (sym room.same.catalog) lies.spellings in
           let stands = room.stands S standing in
           record {
             comes = inr (same_parts (λ x k. Comes x layout k S Restart c.put.new.came) (catalog_in m1) catalog (site_in m1) i (sym room.same.catalog) (sym room.same.id)
-                (c.put.ensures.comes layout S stands counted ready_for spelled kept));
+                (c.put.ensures.comes layout S stands counted ready_for at spelled kept));
             leaves = same_parts (λ x k. IsLeft {g = g.D.Disk} layout c.put.new.machine (stands_after x k S Restart c.put.new.came) c.put.new.book) (catalog_in m1) catalog (site_in m1) i (sym room.same.catalog) (sym room.same.id)
-                (c.put.ensures.leaves layout S stands counted ready_for spelled kept);
+                (c.put.ensures.leaves layout S stands counted ready_for at spelled kept);
             last = tt;
             takes_none = λ last. absurd (over.left (ap (λ (K : Knowledge). K.epoch) knows ∙ last));
           };
       any_moment = λ layout S lies.
+          let over = over_here {g = g.D.Disk} catalog layout i S c.args.book.now bodies lies ready format told in
+          let at = format_here {g = g.D.Disk} catalog layout i S c.args.book.now bodies lies over.records over.tell format over.told in
           let knows = knows_here {g = g.D.Disk} catalog layout i S c.args.book.now bodies lies over.records over.tell in
-          let ready_for = same_parts (λ x k. IsReadyFor x k (tables_in m1) S Restart ready) catalog (catalog_in m1) i (site_in m1) room.same.catalog room.same.id
-          (subst (λ (o : Option Tables). IsReadyFor catalog i o S Restart ready) (sym down) (over.ready_for S lies.down knows)) in
+          let ready_for = same_parts (λ x k. IsReadyFor (header_of layout) x k (tables_in m1) S Restart ready) catalog (catalog_in m1) i (site_in m1) room.same.catalog room.same.id
+          (subst (λ (o : Option Tables). IsReadyFor (header_of layout) catalog i o S Restart ready) (sym down)
+          (over.ready_for (header_of layout) S lies.down knows)) in
           let kept = kept_here {g = g.D.Disk} catalog layout i S c.args.book.now bodies lies (shape_of c.args.book.now).sites
           (subst (IsFor (shape_of c.args.book.now).sites) lies.laid (for_shape (shape_of c.args.book.now) c.args.book.now.live))
           c.requires.sites c.spell_any.new.book c.pack_any.new.book same packed in
@@ -224,10 +247,10 @@ returns g c =
           (packed_next {g = g.D.Disk} catalog layout i S c.args.book.now bodies lies c.spell_any.new.book same (disk_of c.pack_any.new.book)
           (c.pack_any.ensures.any_moment (same.book.stands bodies lies.stands)))
           (same_parts (λ x k. LeavesOnly g.D.Disk.moment g.D.Disk.left_since (disk_of c.pack_any.new.book) (disk_of c.put.new.book) (MayHaveNext x layout k S Restart None)) (catalog_in m1) catalog (site_in m1) i (sym room.same.catalog) (sym room.same.id)
-          (c.put.ensures.any_moment layout S ready_for kept));
+          (c.put.ensures.any_moment layout S ready_for at kept));
       refused = tt;
-      over = comes_of catalog i _ bodies ready over _ _
-          (subst (λ n. IsOutcomeOf Restart ready n c.put.new.came.outcome) (packed.left ∙ ap (λ (l : Layout). left_over l bodies) laid) c.put.ensures.outcome)
+      over = comes_of _ catalog i _ bodies ready format over _ _
+          (subst (λ n. IsOutcomeOf format Restart ready n c.put.new.came.outcome) (packed.left ∙ ap (λ (l : Layout). left_over l bodies) laid) c.put.ensures.outcome)
           c.put.ensures.wrote;
       up = c.put.ensures.up ∙ ap (λ (up : Bool). up_after Restart c.put.new.came.outcome up) (ap is_some down);
       sized = subst (λ (x : Catalog). IsSized x.sites c.put.new.came) room.same.catalog c.put.ensures.sized;
@@ -248,16 +271,19 @@ rest-requires-clause-rest g c = rw c.hindrance.ensures (hindered_is c.in-Err.why
 pub returns-in-Err : goal.returns-in-Err
 returns-in-Err g c =
     let why = c.in-Err.why in
-    let refused = same_parts (λ x k. IfSome why (IsRefusedOver x k (map (λ body. body.items) c.args.bodies.now))) c.catalog.result.now (catalog_in c.args.machine.now) c.id.result (site_in c.args.machine.now) (sym c.catalog.ensures) (sym c.id.ensures) c.in-Err.ensures.refused in
+    let refused = same_parts (λ x k. IfSome why (IsRefusedOver First x k (map (λ body. body.items) c.args.bodies.now))) c.catalog.result.now (catalog_in c.args.machine.now) c.id.result (site_in c.args.machine.now) (sym c.catalog.ensures) (sym c.id.ensures) c.in-Err.ensures.refused in
     let came = c.rest.ensures.came ∙ ap only c.hindrance.ensures in
     record {
       raises = λ layout S lies standing count.
           raises_hindered {g = g.D.Disk} (catalog_in c.args.machine.now) layout (site_in c.args.machine.now) S c.args.book.now (map (λ body. body.items) c.args.bodies.now) lies g.met.D.Disk.size_is c.args.machine.now refl c.rest.new.came
-          (c.rest.ensures.stands S standing lies.down) why refused came;
+          (c.rest.ensures.stands S standing lies.down) why
+          (refused_here {g = g.D.Disk} (catalog_in c.args.machine.now) layout (site_in c.args.machine.now) S c.args.book.now (map (λ body. body.items) c.args.bodies.now) lies why refused) came;
       any_moment = λ layout S lies.
           rests_next {g = g.D.Disk} (catalog_in c.args.machine.now) layout (site_in c.args.machine.now) S c.args.book.now (map (λ body. body.items) c.args.bodies.now) lies g.met.D.Disk.only_now;
       refused = IfSome_then why refused (λ cause over. (refl, over));
-      over = comes_hindered (catalog_in c.args.machine.now) (site_in c.args.machine.now) _ (map (λ body. body.items) c.args.bodies.now) _ _ why refused
+      over = comes_hindered _ (catalog_in c.args.machine.now) (site_in c.args.machine.now) _ (map (λ body. body.items) c.args.bodies.now) _ _ why
+          (subst (λ (h : Format). IfSome why (IsRefusedOver h (catalog_in c.args.machine.now) (site_in c.args.machine.now) (map (λ body. body.items) c.args.bodies.now)))
+          (sym (laid_header (shape_of c.args.book.now) c.args.book.now.live)) refused)
           (ap (λ (x : Came). x.outcome) came);
       up = ap is_some c.requires.down ∙ sym (ap (λ (x : Came). up_after Restart x.outcome false) came ∙ (hindered_is why).3);
       sized = sized_as _ c.rest.new.came _ came (sized_only _ (hindered_by why) (hindered_is why).1);

@@ -1,12 +1,13 @@
 use Rattle.std.proofs.Common.{◌≡◌, [], rules, ◌≤◌, ℕ, List, length, map, true, false, Option, Some, None, sym, ◌∙◌, subst, ap, inl, inr, refl, arith}
 use Rattle.std.specs.Prelude.{IfSome, IsSome, is_some}
+use Rattle.walter_base.specs.declared.format.Format.{Format}
 use Rattle.walter_base.specs.Sizes.{CanBeRecorded}
 use Rattle.walter_checkpoint.specs.Books.{disk_of, left_of, HasRoom}
 use Rattle.walter_checkpoint.specs.declared.book.Book.{Book}
 use Rattle.walter_engine.proofs.Bodies.{some_is}
 use Rattle.walter_engine.proofs.Crashes.{unmoved_next, appends_next}
 use Rattle.walter_engine.proofs.Room.{short_enough, need_is}
-use Rattle.walter_engine.proofs.Written.{is_taken, spelling_some, spelling_none, full_is, failed_is, failure_is, fullness_is, holds_none, faults_as, calls_as, sized_as, sized_flying, brings, has, fits_here, lacks_here, leaves_kept, leaves_more, leaves_flying, ups_same, ups_ruled}
+use Rattle.walter_engine.proofs.Written.{fits_next, is_taken, spelling_some, spelling_none, full_is, failed_is, failure_is, fullness_is, holds_none, faults_as, calls_as, sized_as, sized_flying, brings, has, fits_here, lacks_here, leaves_kept, leaves_more, leaves_flying, ups_same, ups_ruled}
 use Rattle.walter_engine.proofs.writing.put.Goals as goal
 use Rattle.walter_engine.specs.Stores.{IsKept}
 use Rattle.walter_journal.specs.Journals.{need_of}
@@ -16,7 +17,8 @@ use Rattle.walter_machine.specs.Machines.{catalog_in, site_in, tables_in, is_up}
 use Rattle.walter_machine.specs.Readiness.{rec_in}
 use Rattle.walter_packet.specs.Framed.{frame_of}
 use Rattle.walter_rules.specs.Calls.{Expected}
-use Rattle.walter_rules.specs.Layouts.{FitsIn}
+use Rattle.walter_record.specs.Spelling.{record_spelled, FitsFormat}
+use Rattle.walter_rules.specs.Layouts.{FitsIn, header_of}
 use Rattle.walter_rules.specs.Trails.{only, failure, fullness}
 use Rattle.walter_rules.specs.Sending.{Send}
 use Rattle.walter_rules.specs.Standing.{up_after}
@@ -28,18 +30,18 @@ use Rattle.walter_tables.specs.declared.tables.Tables.{Tables}
 pub returns-in_default : goal.returns-in_default
 returns-in_default g c =
     let came = c.keep.ensures.came in
-    let free = spelling_none {g = g.D.Disk} c.args.book.now (rec_in c.args.ready.now) c.args.body c.requires.spelled c.in_default.is in
+    let free = spelling_none {g = g.D.Disk} c.args.format c.args.book.now (rec_in c.args.ready.now) c.args.body c.requires.spelled c.in_default.is in
     record {
-      comes = λ layout S standing counted ready_for spelled kept.
+      comes = λ layout S standing counted ready_for at spelled kept.
           c.keep.ensures.comes layout S ready_for (holds_none (FitsIn layout S) (rec_in c.args.ready.now) free);
-      leaves = λ layout S standing counted ready_for spelled kept.
+      leaves = λ layout S standing counted ready_for at spelled kept.
           leaves_kept {g = g.D.Disk} g.met.D.Disk.size_is (catalog_in c.args.machine.now) layout (site_in c.args.machine.now) S c.args.event.now spelled c.keep.new.self c.keep.ensures.same.catalog
-          c.keep.new.came (c.keep.ensures.stands S standing counted ready_for) c.args.book.now kept
-          (ups_ruled (catalog_in c.args.machine.now) (site_in c.args.machine.now) S c.args.event.now c.keep.new.came
+          c.keep.new.came (c.keep.ensures.stands (header_of layout) S standing counted ready_for) c.args.book.now kept
+          (ups_ruled (header_of layout) (catalog_in c.args.machine.now) (site_in c.args.machine.now) S c.args.event.now c.keep.new.came
           (ap (λ (x : Came). x.outcome) came ∙ ap (λ (e : Expected). e.outcome) ready_for.rule)
           (sym (ap (λ (e : Expected). e.wrote) ready_for.rule) ∙ free))
           (ap (λ (x : Came). x.wrote) came ∙ free) (ap (λ (x : Came). x.flight) came);
-      any_moment = λ layout S ready_for kept.
+      any_moment = λ layout S ready_for at kept.
           unmoved_next {g = g.D.Disk} g.met.D.Disk.only_now c.args.book.now (catalog_in c.args.machine.now) layout (site_in c.args.machine.now) S c.args.event.now None kept;
       outcome = inl (ap (λ (x : Came). x.outcome) came);
       up = c.keep.ensures.up;
@@ -62,34 +64,38 @@ returns-in_default g c =
 -- its record is appended
 pub append-requires-clause-short : goal.append-requires-clause-short
 append-requires-clause-short g c =
-    let s = spelling_some {g = g.D.Disk} c.args.book.now (rec_in c.args.ready.now) c.args.body c.in-Some.body c.requires.spelled c.in-Some.is in
+    let s = spelling_some {g = g.D.Disk} c.args.format c.args.book.now (rec_in c.args.ready.now) c.args.body c.in-Some.body c.requires.spelled c.in-Some.is in
     let can = some_is CanBeRecorded (rec_in c.args.ready.now) s.0 s.1 c.requires.anyway.ready_for.sized.wrote in
     let is = c.as_slice.ensures ∙ s.2.is in
-    subst (λ (b : List ℕ). length b ≤ 65536) (sym is) (short_enough s.0 can)
+    subst (λ (b : List ℕ). length b ≤ 65536) (sym is) (short_enough c.args.format s.0 can
+    (some_is (FitsFormat c.args.format) (rec_in c.args.ready.now) s.0 s.1
+    (fits_next c.args.format (catalog_in c.args.machine.now) (site_in c.args.machine.now) c.requires.anyway.S
+    (rec_in c.args.ready.now) c.requires.sites c.requires.anyway.ready_for.next)))
 
 pub append-requires-clause-room : goal.append-requires-clause-room
 append-requires-clause-room g c =
-    let s = spelling_some {g = g.D.Disk} c.args.book.now (rec_in c.args.ready.now) c.args.body c.in-Some.body c.requires.spelled c.in-Some.is in
+    let s = spelling_some {g = g.D.Disk} c.args.format c.args.book.now (rec_in c.args.ready.now) c.args.body c.in-Some.body c.requires.spelled c.in-Some.is in
     subst (λ (b : List ℕ). HasRoom {g = g.D.Disk} c.args.book.now (length b)) (sym c.as_slice.ensures) s.2.room
 
 pub returns-in-Ok : goal.returns-in-Ok
 returns-in-Ok g c =
-    let s = spelling_some {g = g.D.Disk} c.args.book.now (rec_in c.args.ready.now) c.args.body c.in-Some.body c.requires.spelled c.in-Some.is in
+    let s = spelling_some {g = g.D.Disk} c.args.format c.args.book.now (rec_in c.args.ready.now) c.args.body c.in-Some.body c.requires.spelled c.in-Some.is in
     let can = some_is CanBeRecorded (rec_in c.args.ready.now) s.0 s.1 c.requires.anyway.ready_for.sized.wrote in
     let is = c.as_slice.ensures ∙ s.2.is in
     let came = c.keep-in-Ok.ensures.came in
     record {
-      comes = λ layout S standing counted ready_for spelled kept.
-          c.keep-in-Ok.ensures.comes layout S ready_for (fits_here (catalog_in c.args.machine.now) (site_in c.args.machine.now) (tables_in c.args.machine.now) S c.args.event.now c.args.ready.now ready_for s.0 s.1 {g = g.D.Disk} layout c.args.book.now kept can c.as_slice.result.now is c.in-Ok.ensures.ok.fits);
-      leaves = λ layout S standing counted ready_for spelled kept.
+      comes = λ layout S standing counted ready_for at spelled kept.
+          c.keep-in-Ok.ensures.comes layout S ready_for (fits_here (catalog_in c.args.machine.now) layout (site_in c.args.machine.now) (tables_in c.args.machine.now) S c.args.event.now c.args.ready.now ready_for s.0 s.1 {g = g.D.Disk}
+          c.args.format standing.told at c.args.book.now kept c.as_slice.result.now is (has (catalog_in c.args.machine.now) layout (site_in c.args.machine.now) (tables_in c.args.machine.now) S c.args.event.now c.args.ready.now ready_for s.0 s.1 c.args.format c.requires.sites s.2.ranges) c.in-Ok.ensures.ok.fits);
+      leaves = λ layout S standing counted ready_for at spelled kept.
           leaves_more {g = g.D.Disk} g.met.D.Disk.size_is (catalog_in c.args.machine.now) layout (site_in c.args.machine.now) S c.args.event.now spelled c.keep-in-Ok.new.self c.keep-in-Ok.ensures.same.catalog
-          c.keep-in-Ok.new.came (c.keep-in-Ok.ensures.stands S standing counted ready_for) c.append.new.self c.args.book.now s.0 c.as_slice.result.now
-          kept is (has (catalog_in c.args.machine.now) (site_in c.args.machine.now) (tables_in c.args.machine.now) S c.args.event.now c.args.ready.now ready_for s.0 s.1 s.2.ranges) c.in-Ok.ensures.ok c.append.ensures.shape c.append.ensures.live
-          (brings (catalog_in c.args.machine.now) (site_in c.args.machine.now) (tables_in c.args.machine.now) S c.args.event.now c.args.ready.now ready_for s.0 s.1)
+          c.keep-in-Ok.new.came (c.keep-in-Ok.ensures.stands (header_of layout) S standing counted ready_for) c.append.new.self c.args.book.now s.0 c.args.format c.as_slice.result.now
+          kept at is (has (catalog_in c.args.machine.now) layout (site_in c.args.machine.now) (tables_in c.args.machine.now) S c.args.event.now c.args.ready.now ready_for s.0 s.1 c.args.format c.requires.sites s.2.ranges) c.in-Ok.ensures.ok c.append.ensures.shape c.append.ensures.live
+          (brings (catalog_in c.args.machine.now) layout (site_in c.args.machine.now) (tables_in c.args.machine.now) S c.args.event.now c.args.ready.now ready_for s.0 s.1)
           (ap (λ (x : Came). x.wrote) came ∙ s.1) (ap (λ (x : Came). x.flight) came);
-      any_moment = λ layout S ready_for kept.
+      any_moment = λ layout S ready_for at kept.
           appends_next {g = g.D.Disk} (catalog_in c.args.machine.now) layout (site_in c.args.machine.now) S c.args.event.now c.args.book.now kept.laid kept.stands (disk_of c.append.new.self) s.0 c.as_slice.result.now
-          (brings (catalog_in c.args.machine.now) (site_in c.args.machine.now) (tables_in c.args.machine.now) S c.args.event.now c.args.ready.now ready_for s.0 s.1) is (c.append.ensures.any_moment _ kept.stands);
+          (brings (catalog_in c.args.machine.now) layout (site_in c.args.machine.now) (tables_in c.args.machine.now) S c.args.event.now c.args.ready.now ready_for s.0 s.1) (is ∙ ap (λ (f : Format). record_spelled f s.0) at) (c.append.ensures.any_moment _ kept.stands);
       outcome = inl (ap (λ (x : Came). x.outcome) came);
       up = c.keep-in-Ok.ensures.up;
       sent = λ none. ap (λ (x : Came). x.sends) came ∙ none;
@@ -113,27 +119,28 @@ returns-in-Ok g c =
 -- it meets a fault
 pub fail-requires-clause-flies : goal.fail-requires-clause-flies
 fail-requires-clause-flies g c =
-    let s = spelling_some {g = g.D.Disk} c.args.book.now (rec_in c.args.ready.now) c.args.body c.in-Some.body c.requires.spelled c.in-Some.is in
+    let s = spelling_some {g = g.D.Disk} c.args.format c.args.book.now (rec_in c.args.ready.now) c.args.body c.in-Some.body c.requires.spelled c.in-Some.is in
     ap is_some s.1
 
 pub returns-in-Err-Failed : goal.returns-in-Err-Failed
 returns-in-Err-Failed g c =
-    let s = spelling_some {g = g.D.Disk} c.args.book.now (rec_in c.args.ready.now) c.args.body c.in-Some.body c.requires.spelled c.in-Some.is in
+    let s = spelling_some {g = g.D.Disk} c.args.format c.args.book.now (rec_in c.args.ready.now) c.args.body c.in-Some.body c.requires.spelled c.in-Some.is in
     let can = some_is CanBeRecorded (rec_in c.args.ready.now) s.0 s.1 c.requires.anyway.ready_for.sized.wrote in
     let is = c.as_slice.ensures ∙ s.2.is in
     let came = some_is (λ rec. c.fail.new.came ≡ record (only (failure c.args.event.now rec)) { flight = Some rec }) (rec_in c.args.ready.now) s.0 s.1 c.fail.ensures.came in
     let failed = failed_is c.append.result (need_of c.as_slice.result.now) (left_of c.args.book.now) _ _ c.append.ensures.full c.append.ensures.failed c.in-Err-Failed.field-0 c.in-Err-Failed.is c.in-Err-Failed.field-0-is in
     record {
-      comes = λ layout S standing counted ready_for spelled kept. c.fail.ensures.comes layout S ready_for (fits_here (catalog_in c.args.machine.now) (site_in c.args.machine.now) (tables_in c.args.machine.now) S c.args.event.now c.args.ready.now ready_for s.0 s.1 {g = g.D.Disk} layout c.args.book.now kept can c.as_slice.result.now is failed.0);
-      leaves = λ layout S standing counted ready_for spelled kept.
+      comes = λ layout S standing counted ready_for at spelled kept. c.fail.ensures.comes layout S ready_for (fits_here (catalog_in c.args.machine.now) layout (site_in c.args.machine.now) (tables_in c.args.machine.now) S c.args.event.now c.args.ready.now ready_for s.0 s.1 {g = g.D.Disk}
+          c.args.format standing.told at c.args.book.now kept c.as_slice.result.now is (has (catalog_in c.args.machine.now) layout (site_in c.args.machine.now) (tables_in c.args.machine.now) S c.args.event.now c.args.ready.now ready_for s.0 s.1 c.args.format c.requires.sites s.2.ranges) failed.0);
+      leaves = λ layout S standing counted ready_for at spelled kept.
           leaves_flying {g = g.D.Disk} g.met.D.Disk.size_is (catalog_in c.args.machine.now) layout (site_in c.args.machine.now) S c.args.event.now spelled c.fail.new.self c.fail.ensures.same.catalog
-          c.fail.new.came (c.fail.ensures.stands S standing counted ready_for) c.append.new.self c.args.book.now s.0 c.as_slice.result.now
-          kept is (has (catalog_in c.args.machine.now) (site_in c.args.machine.now) (tables_in c.args.machine.now) S c.args.event.now c.args.ready.now ready_for s.0 s.1 s.2.ranges) g.met.D.Disk.counts_now failed.1
+          c.fail.new.came (c.fail.ensures.stands (header_of layout) S standing counted ready_for) c.append.new.self c.args.book.now s.0 c.args.format c.as_slice.result.now
+          kept at is (has (catalog_in c.args.machine.now) layout (site_in c.args.machine.now) (tables_in c.args.machine.now) S c.args.event.now c.args.ready.now ready_for s.0 s.1 c.args.format c.requires.sites s.2.ranges) g.met.D.Disk.counts_now failed.1
           (c.append.ensures.any_moment _ kept.stands) c.fail.ensures.down
           (ap (λ (x : Came). x.wrote) came) (ap (λ (x : Came). x.flight) came);
-      any_moment = λ layout S ready_for kept.
+      any_moment = λ layout S ready_for at kept.
           appends_next {g = g.D.Disk} (catalog_in c.args.machine.now) layout (site_in c.args.machine.now) S c.args.event.now c.args.book.now kept.laid kept.stands (disk_of c.append.new.self) s.0 c.as_slice.result.now
-          (brings (catalog_in c.args.machine.now) (site_in c.args.machine.now) (tables_in c.args.machine.now) S c.args.event.now c.args.ready.now ready_for s.0 s.1) is (c.append.ensures.any_moment _ kept.stands);
+          (brings (catalog_in c.args.machine.now) layout (site_in c.args.machine.now) (tables_in c.args.machine.now) S c.args.event.now c.args.ready.now ready_for s.0 s.1) (is ∙ ap (λ (f : Format). record_spelled f s.0) at) (c.append.ensures.any_moment _ kept.stands);
       outcome = inr (inr (inl (s.0, ap (λ (x : Came). x.outcome) came)));
       up = ap is_some c.fail.ensures.down
           ∙ sym (ap (λ (x : Came). up_after c.args.event.now x.outcome (is_up c.args.machine.now)) came ∙ (failure_is c.args.event.now s.0).3 (is_up c.args.machine.now));
@@ -159,37 +166,42 @@ returns-in-Err-Failed g c =
 -- it finds no place
 pub overflow-requires : goal.overflow-requires
 overflow-requires g c =
-    let s = spelling_some {g = g.D.Disk} c.args.book.now (rec_in c.args.ready.now) c.args.body c.in-Some.body c.requires.spelled c.in-Some.is in
+    let s = spelling_some {g = g.D.Disk} c.args.format c.args.book.now (rec_in c.args.ready.now) c.args.body c.in-Some.body c.requires.spelled c.in-Some.is in
     let some : IsSome (rec_in c.args.ready.now) = ap is_some s.1 in
     search rules
 
 pub returns : goal.returns
 returns g c =
-    let s = spelling_some {g = g.D.Disk} c.args.book.now (rec_in c.args.ready.now) c.args.body c.in-Some.body c.requires.spelled c.in-Some.is in
+    let s = spelling_some {g = g.D.Disk} c.args.format c.args.book.now (rec_in c.args.ready.now) c.args.body c.in-Some.body c.requires.spelled c.in-Some.is in
     let can = some_is CanBeRecorded (rec_in c.args.ready.now) s.0 s.1 c.requires.anyway.ready_for.sized.wrote in
     let is = c.as_slice.ensures ∙ s.2.is in
     let full = full_is c.append.result (need_of c.as_slice.result.now) (left_of c.args.book.now) _ _ c.append.ensures.full c.append.ensures.failed c.in-Err-Full.field-0 c.in-Err-Full.need c.in-Err-Full.left c.in-Err-Full.is c.in-Err-Full.field-0-is in
     let came = c.overflow.ensures.came in
     record {
-      comes = λ layout S standing counted ready_for spelled kept.
-          c.overflow.ensures.comes layout S ready_for (lacks_here (catalog_in c.args.machine.now) (site_in c.args.machine.now) (tables_in c.args.machine.now) S c.args.event.now c.args.ready.now ready_for s.0 s.1 {g = g.D.Disk} layout c.args.book.now c.in-Err-Full.need c.in-Err-Full.left
-          kept can c.as_slice.result.now is full.0 full.1 full.2);
-      leaves = λ layout S standing counted ready_for spelled kept.
+      comes = λ layout S standing counted ready_for at spelled kept.
+          c.overflow.ensures.comes layout S ready_for (lacks_here (catalog_in c.args.machine.now) layout (site_in c.args.machine.now) (tables_in c.args.machine.now) S c.args.event.now c.args.ready.now ready_for s.0 s.1 {g = g.D.Disk}
+          c.args.format standing.told at c.args.book.now kept c.as_slice.result.now is (has (catalog_in c.args.machine.now) layout (site_in c.args.machine.now) (tables_in c.args.machine.now) S c.args.event.now c.args.ready.now ready_for s.0 s.1 c.args.format c.requires.sites s.2.ranges)
+          c.in-Err-Full.need c.in-Err-Full.left full.0 full.1 full.2);
+      leaves = λ layout S standing counted ready_for at spelled kept.
           leaves_kept {g = g.D.Disk} g.met.D.Disk.size_is (catalog_in c.args.machine.now) layout (site_in c.args.machine.now) S c.args.event.now spelled c.overflow.new.self c.overflow.ensures.same.catalog
-          c.overflow.new.came (c.overflow.ensures.stands S standing ready_for) c.append.new.self
+          c.overflow.new.came (c.overflow.ensures.stands (header_of layout) S standing ready_for) c.append.new.self
           (subst (λ (b : Book g.row.D.Denot g.D.Disk). IsKept layout S b) (sym full.3) kept)
           (ups_same (catalog_in c.args.machine.now) (site_in c.args.machine.now) S c.args.event.now c.overflow.new.came (fullness c.args.event.now c.in-Err-Full.need c.in-Err-Full.left)
           (ap (λ (x : Came). x.outcome) came) ((fullness_is c.args.event.now c.in-Err-Full.need c.in-Err-Full.left).3 S.up))
           (ap (λ (x : Came). x.wrote) came) (ap (λ (x : Came). x.flight) came);
-      any_moment = λ layout S ready_for kept.
+      any_moment = λ layout S ready_for at kept.
           appends_next {g = g.D.Disk} (catalog_in c.args.machine.now) layout (site_in c.args.machine.now) S c.args.event.now c.args.book.now kept.laid kept.stands (disk_of c.append.new.self) s.0 c.as_slice.result.now
-          (brings (catalog_in c.args.machine.now) (site_in c.args.machine.now) (tables_in c.args.machine.now) S c.args.event.now c.args.ready.now ready_for s.0 s.1) is (c.append.ensures.any_moment _ kept.stands);
+          (brings (catalog_in c.args.machine.now) layout (site_in c.args.machine.now) (tables_in c.args.machine.now) S c.args.event.now c.args.ready.now ready_for s.0 s.1) (is ∙ ap (λ (f : Format). record_spelled f s.0) at) (c.append.ensures.any_moment _ kept.stands);
       outcome = inr (inr (inr (record {
         rec = s.0;
         need = c.in-Err-Full.need;
         free = c.in-Err-Full.left;
         is = s.1;
-        less = omega (arith, full.0, ap length is, need_is s.0 can);
+        less =
+            let fits = some_is (FitsFormat c.args.format) (rec_in c.args.ready.now) s.0 s.1
+            (fits_next c.args.format (catalog_in c.args.machine.now) (site_in c.args.machine.now) c.requires.anyway.S
+            (rec_in c.args.ready.now) c.requires.sites c.requires.anyway.ready_for.next) in
+            omega (arith, full.0, ap length is, need_is c.args.format s.0 fits);
         outcome_is = ap (λ (x : Came). x.outcome) came;
       })));
       up = ap is_some c.overflow.ensures.tables

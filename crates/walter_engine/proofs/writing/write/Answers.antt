@@ -4,7 +4,7 @@ use Rattle.walter_checkpoint.specs.Books.{disk_of}
 use Rattle.walter_disk.proofs.Moments.{joined}
 use Rattle.walter_disk.specs.Disks.{DiskState}
 use Rattle.walter_engine.proofs.Crashes.{stays_next}
-use Rattle.walter_engine.proofs.Written.{is_taken, want_is, takes_memory, faults_as, calls_as, sized_as, leaves_kept, same_kept, same_left, same_faults, same_calls, ups_same}
+use Rattle.walter_engine.proofs.Written.{fits_next, is_taken, want_is, takes_memory, faults_as, calls_as, sized_as, leaves_kept, same_kept, same_left, same_faults, same_calls, ups_same}
 use Rattle.walter_engine.proofs.writing.write.Goals as goal
 use Rattle.walter_engine.specs.Contents.{MayHaveNext}
 use Rattle.walter_engine.specs.Writings.{IsOutcomeOf}
@@ -18,8 +18,13 @@ use Rattle.walter_rules.specs.Sending.{Send}
 use Rattle.walter_rules.specs.Standing.{up_after}
 use Rattle.walter_rules.specs.declared.entry.Came.{Came}
 
-pub spell_any-requires : goal.spell_any-requires
-spell_any-requires g c = c.requires.anyway.ready_for.sized.wrote
+pub spell_any-requires-clause-sized : goal.spell_any-requires-clause-sized
+spell_any-requires-clause-sized g c = c.requires.anyway.ready_for.sized.wrote
+
+pub spell_any-requires-clause-fits : goal.spell_any-requires-clause-fits
+spell_any-requires-clause-fits g c =
+    fits_next c.args.format (catalog_in c.args.machine.now) (site_in c.args.machine.now) c.requires.anyway.S
+    (rec_in c.args.ready.now) c.requires.sites c.requires.anyway.ready_for.next
 
 -- the book has room for what is spelled
 pub returns-in-Ok : goal.returns-in-Ok
@@ -27,16 +32,16 @@ returns-in-Ok g c =
     let same = c.spell_any.ensures.same in
     let put = c.put.ensures in
     record {
-      comes = λ layout S standing counted ready_for spelled kept.
-          put.comes layout S standing counted ready_for spelled (same_kept layout S _ _ same kept);
-      leaves = λ layout S standing counted ready_for spelled kept.
-          put.leaves layout S standing counted ready_for spelled (same_kept layout S _ _ same kept);
-      any_moment = λ layout S ready_for kept.
+      comes = λ layout S standing counted ready_for at spelled kept.
+          put.comes layout S standing counted ready_for at spelled (same_kept layout S _ _ same kept);
+      leaves = λ layout S standing counted ready_for at spelled kept.
+          put.leaves layout S standing counted ready_for at spelled (same_kept layout S _ _ same kept);
+      any_moment = λ layout S ready_for at kept.
           joined g.D.Disk.moment g.D.Disk.left_since (disk_of c.args.book.now) (disk_of c.spell_any.new.book) (disk_of c.put.new.book)
           (MayHaveNext (catalog_in c.args.machine.now) layout (site_in c.args.machine.now) S c.args.event.now None)
           (stays_next {g = g.D.Disk} (catalog_in c.args.machine.now) layout (site_in c.args.machine.now) S c.args.event.now c.args.book.now kept.laid kept.stands c.spell_any.new.book same)
-          (put.any_moment layout S ready_for (same_kept layout S _ _ same kept));
-      outcome = subst (λ left. IsOutcomeOf c.args.event.now c.args.ready.now left c.put.new.came.outcome) (same_left _ _ same) put.outcome;
+          (put.any_moment layout S ready_for at (same_kept layout S _ _ same kept));
+      outcome = subst (λ left. IsOutcomeOf c.args.format c.args.event.now c.args.ready.now left c.put.new.came.outcome) (same_left _ _ same) put.outcome;
       up = put.up;
       sent = put.sent;
       wrote = put.wrote;
@@ -59,14 +64,14 @@ returns-in-Err g c =
     let came = c.want.ensures.came in
     let same = c.spell_any.ensures.same in
     record {
-      comes = λ layout S standing counted ready_for spelled kept.
+      comes = λ layout S standing counted ready_for at spelled kept.
           c.want.ensures.comes layout S (takes_memory (rec_in c.args.ready.now) _ c.in-Err.ensures.free ready_for.takes);
-      leaves = λ layout S standing counted ready_for spelled kept.
+      leaves = λ layout S standing counted ready_for at spelled kept.
           leaves_kept {g = g.D.Disk} g.met.D.Disk.size_is (catalog_in c.args.machine.now) layout (site_in c.args.machine.now) S c.args.event.now spelled c.args.machine.now refl
           c.want.new.came (c.want.ensures.stands S standing (takes_memory (rec_in c.args.ready.now) _ c.in-Err.ensures.free ready_for.takes)) c.spell_any.new.book (same_kept layout S _ _ same kept)
           (ups_same (catalog_in c.args.machine.now) (site_in c.args.machine.now) S c.args.event.now c.want.new.came (want c.args.event.now) (ap (λ (x : Came). x.outcome) came) ((want_is c.args.event.now).3 S.up))
           (ap (λ (x : Came). x.wrote) came) (ap (λ (x : Came). x.flight) came);
-      any_moment = λ layout S ready_for kept.
+      any_moment = λ layout S ready_for at kept.
           stays_next {g = g.D.Disk} (catalog_in c.args.machine.now) layout (site_in c.args.machine.now) S c.args.event.now c.args.book.now kept.laid kept.stands c.spell_any.new.book same;
       outcome = inr (inl (ap (λ (x : Came). x.outcome) came));
       up = sym (ap (λ (x : Came). up_after c.args.event.now x.outcome (is_up c.args.machine.now)) came ∙ (want_is c.args.event.now).3 (is_up c.args.machine.now));

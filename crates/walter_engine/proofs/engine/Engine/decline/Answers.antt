@@ -1,5 +1,6 @@
 use Rattle.std.proofs.Common.{◌≡◌, [], ℕ, List, map, false, None, refl, sym, ◌∙◌, ap}
 use Rattle.std.specs.Prelude.{IfSome, is_some}
+use Rattle.walter_base.specs.declared.format.Format.TheVariants.{First}
 use Rattle.walter_engine.specs.Effects.{AreCalls}
 use Rattle.walter_engine.specs.Engines.{layout_for}
 use Rattle.walter_engine.specs.Stores.{disk_under}
@@ -33,15 +34,15 @@ returns g c =
                 come_as {g = g.D.Disk} catalog layout i S event came engine (ap (λ (x : Came). x.kept) only)
                 (λ down restart. c.requires.stays restart) (c.decline.ensures.comes layout S stands.machine)
                 (stands_same {g = g.D.Disk} engine catalog i S event came (c.decline.ensures.stands S stands.machine)
-                stands.spelled layout refl stands.stored closed (ap (λ (x : Came). x.wrote) only)
+                layout refl stands.spellings stands.stored closed (ap (λ (x : Came). x.wrote) only)
                 (ap (λ (x : Came). x.flight) only)
-                (ap is_full (c.decline.ensures.ruled S down) ∙ rule_fits catalog i S event));
+                (ap is_full (c.decline.ensures.ruled First S down) ∙ rule_fits First catalog i S event));
             any_moment = λ S stands.
                 disk_next {g = g.D.Disk} g.met.D.Disk.only_now catalog layout i S event came.kept engine.book engine.disk stands.stored closed;
             refused = always (λ d. IfSome (g.D.Disk.known d).reads (λ bytes. Unit {0})) (disk_under engine.book engine.disk)
                 (λ d. always (λ (bytes : List ℕ). Unit {0}) (g.D.Disk.known d).reads (λ bytes. tt));
-            why = λ refused. absurd (let e = sym (ap is_refusal refused) ∙ ap is_refusal (c.decline.ensures.ruled unmade refl)
-                ∙ rule_allows catalog i unmade event in cc);
+            why = λ refused. absurd (let e = sym (ap is_refusal refused) ∙ ap is_refusal (c.decline.ensures.ruled First unmade refl)
+                ∙ rule_allows First catalog i unmade event in cc);
             sized = c.decline.ensures.sized;
             framed =
                 let none : map (λ (s : Send). frame_of catalog.sites s.1) came.sends ≡ [] =

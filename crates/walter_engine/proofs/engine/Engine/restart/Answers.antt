@@ -28,7 +28,8 @@ use Rattle.walter_checkpoint.specs.Loads.{calls_of_load}
 use Rattle.walter_engine.specs.Engines.{layout_for}
 use Rattle.walter_engine.specs.Raises.{calls_before}
 use Rattle.walter_engine.specs.Stores.{layout_by, layout_of}
-use Rattle.walter_engine.proofs.Laid.{for_is, found_is}
+use Rattle.walter_engine.proofs.Laid.{for_is, for_header, found_is}
+use Rattle.walter_rules.specs.Layouts.{header_of}
 use Rattle.walter_machine.proofs.Sizes.{sized_only}
 use Rattle.walter_machine.specs.Comings.{is_faulty, IsFaulty, IsSized}
 use Rattle.walter_machine.specs.Machines.{AreFound}
@@ -63,7 +64,7 @@ returns-in-Err g c =
                 (load.settled resting.begun) (load.any_moment resting.begun) in
                 come_unloaded {g = g.D.Disk} shape (λ bytes bodies. law.content_or_foreign shape bytes bodies) (λ bytes bodies at claimed. law.content_or_damaged shape bytes bodies at claimed low) layout for_ S c.in-Some.disk c.in-Err.disk resting load.tells
                 (catalog_in c.args.self.now.machine) (site_in c.args.self.now.machine) c.in-Err.fault c.rest.new.came _ _ down cause is_came is_why
-                (stands_same {g = g.D.Disk} _ (catalog_in c.args.self.now.machine) (site_in c.args.self.now.machine) S Restart c.rest.new.came (c.rest.ensures.stands S stands.machine down) stands.spelled layout refl (stored_bare g.D.Disk layout S c.args.self.now.book c.in-Err.disk closed still) closed
+                (stands_same {g = g.D.Disk} _ (catalog_in c.args.self.now.machine) (site_in c.args.self.now.machine) S Restart c.rest.new.came (c.rest.ensures.stands S stands.machine down) layout refl stands.spellings (stored_bare g.D.Disk layout S c.args.self.now.book c.in-Err.disk closed still) closed
                 (ap (λ (x : Came). x.wrote) is_came) (ap (λ (x : Came). x.flight) is_came)
                 (ap (λ (x : Came). is_full x.outcome) is_came ∙ (unloaded_is c.in-Err.fault).2));
             any_moment = λ S stands.
@@ -113,6 +114,7 @@ returns g c =
     let shape = shape_by c.args.self.now.capacity (catalog_in c.args.self.now.machine).sites in
     let layout = layout_for c.args.self.now.areas c.args.self.now.capacity (catalog_in c.args.self.now.machine).sites in
     let for_ = for_is c.args.self.now.areas c.args.self.now.capacity (catalog_in c.args.self.now.machine).sites in
+    let first = for_header c.args.self.now.areas c.args.self.now.capacity (catalog_in c.args.self.now.machine).sites in
     let same_shape = ap (λ n. shape_by c.args.self.now.capacity n) c.sites-sites.ensures in
     let low : c.args.self.now.capacity < 2 ^ 64 = omega arith in
     let shape_is = load.shape ∙ same_shape in
@@ -123,7 +125,7 @@ returns g c =
     let loads : g.D.Disk.device_calls (disk_of c.in-Ok.loaded.0) ≡ g.D.Disk.device_calls c.in-Some.disk + calls_of_load shape c.args.self.now.areas (g.D.Disk.known c.in-Some.disk).size =
     subst (λ (s : Shape). g.D.Disk.device_calls (disk_of c.in-Ok.loaded.0) ≡ g.D.Disk.device_calls c.in-Some.disk + calls_of_load s c.args.self.now.areas (g.D.Disk.known c.in-Some.disk).size) same_shape load.device in
     let is_bodies = c.as_slice-bodies.ensures in
-    let over = same_parts (λ x k. ComesOf x k (left_over (layout_of c.in-Ok.loaded.0) bodies) (map (λ body. body.items) c.as_slice-bodies.result.now) c.raise-refused.new.came.wrote c.raise-refused.result c.raise-refused.new.came.outcome)
+    let over = same_parts (λ x k. ComesOf (header_of (layout_of c.in-Ok.loaded.0)) x k (left_over (layout_of c.in-Ok.loaded.0) bodies) (map (λ body. body.items) c.as_slice-bodies.result.now) c.raise-refused.new.came.wrote c.raise-refused.result c.raise-refused.new.came.outcome)
     (catalog_in c.settle-kept.new.self) (catalog_in c.args.self.now.machine) (site_in c.settle-kept.new.self) (site_in c.args.self.now.machine) (sym c.settle-kept.ensures.same.catalog) (sym c.settle-kept.ensures.same.id)
     c.raise-refused.ensures.over in
     record {
@@ -134,11 +136,11 @@ returns g c =
                 (subst (λ o. IsStored {g = g.D.Disk} layout S c.args.self.now.book o) was stands.stored) in
                 let down = state_up S (tables_in c.args.self.now.machine) stands.machine.state ∙ c.requires.down in
                 let one = subst (λ (b : List (List ℕ)). StandsFor {g = g.D.Disk} c.in-Ok.loaded.0 b) (sym c.as_slice-bodies.ensures) (load.loaded resting.told) in
-                let there = there_loaded {g = g.D.Disk} shape (λ bytes a b. law.content shape bytes a b low) layout for_ S c.in-Some.disk c.in-Ok.loaded.0 shape_is bodies resting (load.image resting.begun) one in
+                let there = there_loaded {g = g.D.Disk} shape (λ bytes a b. law.content shape bytes a b low) layout for_ first S c.in-Some.disk c.in-Ok.loaded.0 shape_is bodies resting (load.image resting.begun) one in
                 let count = length-map c.as_slice-bodies.result.now (λ body. body.items) in
-                let settles = c.settle-kept.ensures.settles S stands.machine (subst (λ (n : ℕ). AreFound S n) count (found_there S (map (λ body. body.items) c.as_slice-bodies.result.now) there)) in
-                let lies = lies_settled {g = g.D.Disk} shape (λ bytes a b. law.content shape bytes a b low) layout for_ S c.in-Some.disk c.in-Ok.loaded.0 shape_is bodies resting (load.image resting.begun) one (catalog_in c.settle-kept.new.self) (site_in c.settle-kept.new.self) c.settle-kept.result
-                (subst (λ (x : Catalog). AreSpelled x.sites S) (sym c.settle-kept.ensures.same.catalog) stands.spelled) down settles.stands.told
+                let settles = c.settle-kept.ensures.settles S stands.machine (subst (λ (n : ℕ). AreFound S n) count (found_there (header_of layout) S (map (λ body. body.items) c.as_slice-bodies.result.now) there)) in
+                let lies = lies_settled {g = g.D.Disk} shape (λ bytes a b. law.content shape bytes a b low) layout for_ first S c.in-Some.disk c.in-Ok.loaded.0 shape_is bodies resting (load.image resting.begun) one (catalog_in c.settle-kept.new.self) (site_in c.settle-kept.new.self) c.settle-kept.result
+                (subst (λ (x : Catalog). AreSpelled (header_of layout) x.sites S) (sym c.settle-kept.ensures.same.catalog) stands.spellings) down settles.stands.told
                 settles.is_found (count ∙ settles.count) in
                 let raises = c.raise-refused.ensures.raises layout (settled (catalog_in c.settle-kept.new.self) (site_in c.settle-kept.new.self) c.settle-kept.result S) lies settles.stands (settles.counted ∙ settles.count) in
                 let book_is = c.close_unless.ensures.book ∙ ap (λ (b : Bool). book_if b c.raise-refused.new.book) c.is_up.ensures in
@@ -151,11 +153,11 @@ returns g c =
                 (subst (λ o. IsStored {g = g.D.Disk} layout S c.args.self.now.book o) was stands.stored) in
                 let down = state_up S (tables_in c.args.self.now.machine) stands.machine.state ∙ c.requires.down in
                 let one = subst (λ (b : List (List ℕ)). StandsFor {g = g.D.Disk} c.in-Ok.loaded.0 b) (sym c.as_slice-bodies.ensures) (load.loaded resting.told) in
-                let there = there_loaded {g = g.D.Disk} shape (λ bytes a b. law.content shape bytes a b low) layout for_ S c.in-Some.disk c.in-Ok.loaded.0 shape_is bodies resting (load.image resting.begun) one in
+                let there = there_loaded {g = g.D.Disk} shape (λ bytes a b. law.content shape bytes a b low) layout for_ first S c.in-Some.disk c.in-Ok.loaded.0 shape_is bodies resting (load.image resting.begun) one in
                 let count = length-map c.as_slice-bodies.result.now (λ body. body.items) in
-                let settles = c.settle-kept.ensures.settles S stands.machine (subst (λ (n : ℕ). AreFound S n) count (found_there S (map (λ body. body.items) c.as_slice-bodies.result.now) there)) in
-                let lies = lies_settled {g = g.D.Disk} shape (λ bytes a b. law.content shape bytes a b low) layout for_ S c.in-Some.disk c.in-Ok.loaded.0 shape_is bodies resting (load.image resting.begun) one (catalog_in c.settle-kept.new.self) (site_in c.settle-kept.new.self) c.settle-kept.result
-                (subst (λ (x : Catalog). AreSpelled x.sites S) (sym c.settle-kept.ensures.same.catalog) stands.spelled) down settles.stands.told
+                let settles = c.settle-kept.ensures.settles S stands.machine (subst (λ (n : ℕ). AreFound S n) count (found_there (header_of layout) S (map (λ body. body.items) c.as_slice-bodies.result.now) there)) in
+                let lies = lies_settled {g = g.D.Disk} shape (λ bytes a b. law.content shape bytes a b low) layout for_ first S c.in-Some.disk c.in-Ok.loaded.0 shape_is bodies resting (load.image resting.begun) one (catalog_in c.settle-kept.new.self) (site_in c.settle-kept.new.self) c.settle-kept.result
+                (subst (λ (x : Catalog). AreSpelled (header_of layout) x.sites S) (sym c.settle-kept.ensures.same.catalog) stands.spellings) down settles.stands.told
                 settles.is_found (count ∙ settles.count) in
                 rw (before, c.close_unless.ensures.same)
                 (same_parts (λ x k. LeavesOnly g.D.Disk.moment g.D.Disk.left_since c.in-Some.disk (disk_of c.raise-refused.new.book) (MayHaveNext x layout k S Restart c.settle-kept.result))
@@ -168,7 +170,7 @@ returns g c =
                 (refused_loaded {g = g.D.Disk} (catalog_in c.settle-kept.new.self) shape (site_in c.settle-kept.new.self) c.in-Some.disk (disk_of c.raise-refused.new.book) c.in-Ok.loaded.0 bodies c.raise-refused.result shape_is
                 (λ told. subst (λ (b : List (List ℕ)). StandsFor {g = g.D.Disk} c.in-Ok.loaded.0 b) (sym c.as_slice-bodies.ensures) (load.loaded told))
                 load.tells c.raise-refused.ensures.refused));
-            why = has_cause (catalog_in c.settle-kept.new.self) (site_in c.settle-kept.new.self) (left_over (layout_of c.in-Ok.loaded.0) bodies) (map (λ body. body.items) c.as_slice-bodies.result.now) c.raise-refused.new.came.wrote c.raise-refused.result c.raise-refused.new.came.outcome
+            why = has_cause _ (catalog_in c.settle-kept.new.self) (site_in c.settle-kept.new.self) (left_over (layout_of c.in-Ok.loaded.0) bodies) (map (λ body. body.items) c.as_slice-bodies.result.now) c.raise-refused.new.came.wrote c.raise-refused.result c.raise-refused.new.came.outcome
                 c.raise-refused.ensures.over;
             sized = subst (λ (x : Catalog). IsSized x.sites (record c.raise-refused.new.came { kept = c.settle-kept.result })) c.settle-kept.ensures.same.catalog
                 (record { outcome = c.raise-refused.ensures.sized.outcome; kept = c.settle-kept.ensures.sized; wrote = c.raise-refused.ensures.sized.wrote; flight = c.raise-refused.ensures.sized.flight; sends = c.raise-refused.ensures.sized.sends });
@@ -208,3 +210,7 @@ returns g c =
 pub raise-refused-requires-clause-sites : goal.raise-refused-requires-clause-sites
 raise-refused-requires-clause-sites g c =
     ap (λ (s : Shape). s.sites) c.in-Ok.ensures.shape ∙ c.sites-sites.ensures ∙ sym (ap (λ (x : Catalog). x.sites) c.settle-kept.ensures.same.catalog)
+
+pub raise-refused-requires-clause-most : goal.raise-refused-requires-clause-most
+raise-refused-requires-clause-most g c =
+    omega (arith, ap (λ (x : Catalog). x.sites) c.settle-kept.ensures.same.catalog, c.args.self.now.most)
