@@ -2,7 +2,8 @@
 ghost use Rattle.std.specs.Prelude.{◌≡◌, ◌≢◌, ◌<◌, ◌≤◌, ◌++◌, ◌∷◌, ◌+◌, ◌↔◌, [], ℕ, List, Option, true};
 ghost use Rattle.std.specs.Prelude.{is_ok, IsOk, if◌then◌else◌, length, map, max, option_map, Some, OnErr, OnOk, IfOk, IsTrue};
 ghost use mathlib.Core.List.{IsPrefix};
-ghost use Rattle.walter_base.specs.Vectors.{most_sites};
+ghost use Rattle.walter_base.specs.declared.format.Format.TheVariants.{First};
+ghost use Rattle.walter_base.specs.Sizes.{most_in};
 ghost use Rattle.walter_rules.specs.declared.event.Event.TheVariants as event;
 ghost use Rattle.walter_rules.specs.declared.event.Input.TheVariants as input;
 ghost use Rattle.walter_trail.specs.Calls.{calls_of};
@@ -81,7 +82,7 @@ impl<D: Disk + Drop, S: Source + Drop, K: Sink + Drop> Cell<D, S, K> {
         lines: Vec<Option<Line<S, K>>>,
     ) -> Result<Cell<D, S, K>, (D, BeginFault)>
         requires here { site.0 < catalog.now.sites }
-        requires most { catalog.now.sites ≤ most_sites }
+        requires most { catalog.now.sites ≤ most_in First }
         requires fewer { catalog.now.tolerated < catalog.now.sites }
         requires place { 19 ≤ capacity }
         requires areas { IsAreas areas capacity }

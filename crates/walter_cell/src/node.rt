@@ -2,7 +2,8 @@
 ghost use Rattle.std.specs.Prelude.{◌≡◌, ◌<◌, ◌≤◌, true, ◌-◌, ◌++◌, ◌+◌, ◌≢◌, ◌∷◌, [], ℕ, max, slice_get, length};
 ghost use Rattle.std.specs.Prelude.{vec_capacity, IsOk, option_map, Some, OnErr, OnOk, IfOk, IfErr, IfSome, IfNone};
 ghost use mathlib.Core.List.{IsPrefix};
-ghost use Rattle.walter_base.specs.Vectors.{most_sites};
+ghost use Rattle.walter_base.specs.declared.format.Format.TheVariants.{First};
+ghost use Rattle.walter_base.specs.Sizes.{most_in};
 ghost use Rattle.walter_engine.specs.declared.answers.BeginFault.TheVariants as unbegun;
 ghost use Rattle.walter_machine.specs.States.{IsSizedEvent};
 ghost use Rattle.walter_cell.specs.Builds.{Begins, HasOpened, IsNewEngine};
@@ -88,7 +89,7 @@ impl<D: Disk + Drop> Node<D> {
         outs: Vec<Outbound>,
     ) -> Result<Node<D>, (D, BeginFault)>
         requires here { site.0 < catalog.now.sites }
-        requires most { catalog.now.sites ≤ most_sites }
+        requires most { catalog.now.sites ≤ most_in First }
         requires fewer { catalog.now.tolerated < catalog.now.sites }
         requires place { 19 ≤ capacity }
         requires areas { IsAreas areas capacity }
@@ -245,7 +246,7 @@ fn new_engine<D: Disk + Drop>(
     areas: u8,
 ) -> Result<Box<Engine<D>>, (D, BeginFault)>
     requires here { site.0 < catalog.now.sites }
-    requires most { catalog.now.sites ≤ most_sites }
+    requires most { catalog.now.sites ≤ most_in First }
     requires fewer { catalog.now.tolerated < catalog.now.sites }
     requires areas { IsAreas areas capacity }
     ensures ok { IfOk result (λ engine. IsNewEngine catalog.now capacity areas site disk engine.value) }

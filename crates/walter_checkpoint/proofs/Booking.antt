@@ -1,5 +1,5 @@
 -- A book on a disk while it begins anew.
-use Rattle.std.proofs.Common.{false, ◌≡◌, ◌≢◌, inl, inr, ◌+◌, ◌-◌, ◌≤◌, ℕ, List, [], ◌∷◌, length, All, Option, Some, option_map, refl, sym, ap, subst, ◌∙◌, arith, length-append}
+use Rattle.std.proofs.Common.{false, ◌≡◌, ◌≢◌, inl, inr, ◌+◌, ◌-◌, ◌≤◌, ℕ, List, [], ◌∷◌, ◌++◌, length, take, drop, get_or, slice_get, All, Option, None, Some, option_map, refl, sym, ap, subst, ◌∙◌, arith, append_assoc, length-append}
 use Rattle.std.specs.Prelude.{IfSome}
 use Rattle.walter_disk.specs.Disks.{DiskState, laid, written}
 use Rattle.walter_disk.specs.Images.{Torn, Only, IsDurable, LeavesOnly}
@@ -8,12 +8,14 @@ use Rattle.walter_journal.specs.Layout.{span_of, IsShort}
 use Rattle.walter_journal.specs.Zeros.{filled, filled_disk, writes_of, Grows}
 use Rattle.walter_disk.proofs.Moments.{weaker, joined}
 use Rattle.walter_journal.specs.Journals.{end_of, capacity_of}
-use Rattle.std.proofs.lemmas.List.{append-nil}
+use Rattle.std.proofs.Math.Seq.{get_or-append_seam}
+use Rattle.std.proofs.lemmas.List.{append-nil, length-take}
+use Rattle.std.proofs.lemmas.Option.{slice_get-get_or}
 use Rattle.std.proofs.lemmas.List.Elements.{All-append}
 use Rattle.walter_journal.proofs.Appending.{told_behind, only_behind}
 use Rattle.walter_checkpoint.specs.Packs.{pack_of, renewed_by}
 use Rattle.walter_checkpoint.specs.Areas.{Shape, area_size, HasTwo, HasBoth, IsAside}
-use Rattle.walter_checkpoint.specs.Books.{HasLaid, disk_of, shape_of, other_place, limit_of, front_length, calls_of_pack, IsFront, IsWithin, IsOther, IsReady, HasRoomOn, HasBeenWritten, GoesOn, StandsFor, StandsWith, ChangesFrom}
+use Rattle.walter_checkpoint.specs.Books.{HasLaid, disk_of, shape_of, other_place, limit_of, front_length, switch_of, calls_of_pack, IsFront, IsWithin, IsOther, IsReady, HasRoomOn, HasBeenWritten, GoesOn, StandsFor, StandsWith, ChangesFrom}
 use Rattle.walter_checkpoint.specs.declared.book.Book.{Book}
 use Rattle.walter_checkpoint.specs.declared.book.Live.{Live}
 use Rattle.walter_checkpoint.specs.declared.book.Live.TheVariants.{Whole, A, B}
@@ -59,6 +61,27 @@ other_is shape live other (inr b) = b.1 ∙ sym (ap (other_place shape) b.0)
 pub calls_are : (shape : Shape) (live : Live) (other : Other) (size : ℕ) → 9 ≤ size → live ≢ Whole → IsOther live (area_size shape) other → calls_of_pack shape live size ≡ writes_of (other.at - size) + 4
 calls_are shape live other size long not_whole (inl a) = ap (λ l. calls_of_pack shape l size) a.0 ∙ ap (λ n. writes_of (n - size) + 4) (sym a.1)
 calls_are shape live other size long not_whole (inr b) = ap (λ l. calls_of_pack shape l size) b.0 ∙ omega (arith, b.1, long)
+
+-- the switch byte that is written, on a disk that reaches behind the header
+pub switch_is : (size : ℕ) (live : Live) (other : Other) (mid new : DiskState) → IsOther live size other → 9 ≤ mid.size
+    → IfSome mid.reads (λ bytes. mid.size ≡ length bytes) → new ≡ written 8 (other.switch ∷ []) mid → IfSome new.reads (λ bytes. slice_get bytes 8 ≡ Some (switch_of other.live))
+switch_is size live other mid new is long told done = subst (λ (disk : DiskState). Tells disk.reads) (sym done) (by mid.reads told)
+  where
+    Tells : Option (List ℕ) → Type 0
+    Tells reads = IfSome reads (λ bytes. slice_get bytes 8 ≡ Some (switch_of other.live))
+
+    switch : IsOther live size other → other.switch ≡ switch_of other.live
+    switch (inl a) = a.2 ∙ sym (ap switch_of a.3)
+    switch (inr b) = b.2 ∙ sym (ap switch_of b.3)
+
+    by : (reads : Option (List ℕ)) → IfSome reads (λ bytes. mid.size ≡ length bytes) → Tells (option_map (laid 8 (other.switch ∷ [])) reads)
+    by None none = tt
+    by (Some bytes) size_is =
+        let head : length (take 8 bytes) ≡ 8 = omega (arith, length-take 8 bytes, size_is, long) in
+        let rest = other.switch ∷ drop (8 + length (other.switch ∷ [])) bytes in
+        ap (λ l. slice_get l 8) (append_assoc (take 8 bytes) (other.switch ∷ []) (drop (8 + length (other.switch ∷ [])) bytes))
+        ∙ slice_get-get_or (take 8 bytes ++ rest) 8 0 (omega (arith, head, length-append (take 8 bytes) rest))
+        ∙ ap Some (ap (λ n. get_or (take 8 bytes ++ rest) n 0) (sym head) ∙ get_or-append_seam (take 8 bytes) other.switch (drop (8 + length (other.switch ∷ [])) bytes) 0 ∙ switch is)
 
 -- where the book goes on behind the pack
 pub goes_on : {D : Type 0} {g : Ghosts D} (old new : Book D g) (bodies : List (List ℕ)) (other : Other) → IsOther old.live (area_size (shape_of old)) other → shape_of new ≡ shape_of old → new.live ≡ other.live

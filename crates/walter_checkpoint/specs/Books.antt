@@ -195,6 +195,12 @@ live_after Whole = Whole
 live_after A = B
 live_after B = A
 
+-- the switch byte that makes the part live, where a load takes any but 1 for area A; the journal of one area has none
+abbrev pub switch_of : Live → ℕ
+switch_of Whole = 0
+switch_of A = 0
+switch_of B = 1
+
 -- of one area nothing has changed; of two this holds
 abbrev pub ChangesFrom : {D : Type 0} {g : Ghosts D} → Live → (old new : Book D g) → Type 0 → Type 0
 ChangesFrom Whole old new P = new ≡ old

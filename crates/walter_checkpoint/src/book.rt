@@ -1,9 +1,13 @@
+<<<<<<< HEAD
 //! A book on a disk: bodies are appended to its live area, and packed into the other.
 ghost use Rattle.std.specs.Prelude.{◌≡◌, ◌≢◌, ◌^◌, ◌+◌, ◌≤◌, ◌-◌, ◌/◌, ◌++◌, ◌∷◌, ℕ, List, length, option_map, is_some, is_err, true, false, [], min, ◌<◌, Err, OnOk, OnErr};
+=======
+ghost use Rattle.std.specs.Prelude.{◌≡◌, ◌≢◌, ◌^◌, ◌+◌, ◌≤◌, ◌-◌, ◌/◌, ◌++◌, ◌∷◌, ℕ, List, length, option_map, is_some, is_err, slice_get, true, false, [], min, ◌<◌, Err, Some, IfSome, OnOk, OnErr};
+>>>>>>> bd9aac3e3ac1590f3899c295e070e0608b4672bc
 ghost use Rattle.walter_disk.specs.Disks.{written, Fails, TakesRoom};
 ghost use Rattle.walter_disk.specs.Images.{IsDurable, LeavesOnly};
 ghost use Rattle.walter_checkpoint.specs.Books.{areas_of, HasLaid, IsLaidBeforeOrBehind};
-ghost use Rattle.walter_checkpoint.specs.Books.{disk_of, shape_of, left_of, HasRoom, HasRoomBehind, ReachesBehind, IsSameBook, Appends, live_after, calls_of_pack, StandsFor, GoesOn, IsReady, IsOther, HasPackRoom, HasBeenWritten, ChangesFrom, Packs};
+ghost use Rattle.walter_checkpoint.specs.Books.{disk_of, shape_of, left_of, HasRoom, HasRoomBehind, ReachesBehind, IsSameBook, Appends, live_after, switch_of, calls_of_pack, StandsFor, GoesOn, IsReady, IsOther, HasPackRoom, HasBeenWritten, ChangesFrom, Packs};
 ghost use Rattle.walter_journal.specs.Journals.{need_of, end_of, capacity_of, staged_of, disk_of as journal_disk};
 ghost use Rattle.walter_journal.specs.Zeros.{zeros as zeros_of, filled_disk, writes_of};
 
@@ -143,6 +147,10 @@ impl<D: Disk> Book<D> {
             ≡ is_some (D.known (disk_of self.old)).reads }
         ensures shape { shape_of self.new ≡ shape_of self.old }
         ensures live { OnOk result (self.new.live ≡ live_after self.old.live) }
+
+        // Of the bytes that make area A live it writes 0.
+        ensures switch { self.old.live ≢ Live.Whole → OnOk result (IfSome (D.known (disk_of self.new)).reads
+            (λ bytes. slice_get bytes 8 ≡ Some (switch_of self.new.live))) }
         ensures device { OnOk result (D.device_calls (disk_of self.new) ≡ D.device_calls (disk_of self.old)
             + calls_of_pack (shape_of self.old) self.old.live (D.known (disk_of self.old)).size) }
         ensures at_most { D.device_calls (disk_of self.new) ≤ D.device_calls (disk_of self.old)

@@ -25,7 +25,6 @@ pub fn load<D: Disk>(
     areas: u8,
     sites: u8,
 ) -> Result<(Book<D>, Bodies), (D, JournalFault)>
-    requires sites { sites ≤ 8 }
     requires areas { IsAreas areas capacity }
 
     // Where the disk tells its bytes, the book stands for the bodies.
@@ -130,7 +129,6 @@ fn open<D: Disk>(
     areas: u8,
     sites: u8,
 ) -> Result<(Found, Stock), JournalFault>
-    requires sites { sites ≤ 8 }
     requires areas { IsAreas areas capacity }
     ensures opened { IfOk result (λ it.
         IsOpened (shape_by capacity sites) it.0 (D.may_leave disk.new) (D.known disk.new)) }
@@ -171,7 +169,6 @@ fn take_stock<D: Disk>(
     sites: u8,
     found: &Found,
 ) -> Result<Stock, NoMemory>
-    requires sites { sites ≤ 8 }
     requires opened { IsOpened (shape_by capacity sites) found.now (D.may_leave disk.old) (D.known disk.old) }
     ensures ok { IfOk result (λ stock. IsStocked D.Disk disk.new (shape_by capacity sites) found.now stock) }
     ensures same { D.known disk.new ≡ D.known disk.old }
@@ -201,7 +198,6 @@ fn find<D: Disk>(
     areas: u8,
     sites: u8,
 ) -> Result<Found, JournalFault>
-    requires sites { sites ≤ 8 }
     requires areas { IsAreas areas capacity }
     ensures opened { IfOk result (λ found.
         IsOpened (shape_by capacity sites) found (D.may_leave disk.new) (D.known disk.new)) }
@@ -242,7 +238,6 @@ fn resume<D: Disk>(
     capacity: u64,
     sites: u8,
 ) -> Result<Found, JournalFault>
-    requires sites { sites ≤ 8 }
     requires some { 0 < (D.known disk.old).size }
     ensures opened { IfOk result (λ found.
         IsOpened (shape_by capacity sites) found (D.may_leave disk.new) (D.known disk.new)) }

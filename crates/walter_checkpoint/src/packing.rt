@@ -26,7 +26,6 @@ fn all_zero(bytes: &[u8]) -> bool
 
 /// Where the zeros stand that a pack leaves out of a body.
 pub(crate) fn left_out(body: &[u8], sites: u8) -> Option<(usize, usize)>
-    requires { sites ≤ 8 }
     ensures some { IfSome result (λ found. (is_cut sites body.now ≡ true)
         × (found.0 ≡ kept_in sites body.now) × (found.1 ≡ start_end (get_or body.now 0 0))
         × (found.0 ≤ found.1) × (found.1 ≤ length body.now)) }
@@ -52,7 +51,6 @@ pub(crate) fn left_out(body: &[u8], sites: u8) -> Option<(usize, usize)>
 
 // Adds the entry of a body.
 fn push_entry(entries: &mut Vec<u8>, body: &[u8], sites: u8) -> Result<(), AllocError>
-    requires sites { sites ≤ 8 }
     requires short { length body.now ≤ 65536 }
     ensures { OnOk result (entries.new.items ≡ entries.old.items ++ entry_of sites body.now) }
 {
@@ -74,7 +72,6 @@ fn push_entry(entries: &mut Vec<u8>, body: &[u8], sites: u8) -> Result<(), Alloc
 
 /// What an area begins with that has a pack of these bodies.
 pub(crate) fn renewal(alloc: Global, bodies: &[Vec<u8>], sites: u8) -> Result<Vec<u8>, AllocError>
-    requires sites { sites ≤ 8 }
     requires short { All (λ body. length body.items ≤ 65536) bodies.now }
     ensures { IfOk result (λ bytes. bytes.items ≡ renewed_by sites (map (λ body. body.items) bodies.now)) }
 {

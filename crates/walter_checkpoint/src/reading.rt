@@ -28,7 +28,6 @@ pub(crate) fn read_book(
     capacity: u64,
     sites: u8,
 ) -> Result<Found, JournalFault>
-    requires { sites ≤ 8 }
     ensures ok { IfOk result (λ found.
         IsRead (shape_by capacity sites) found.live bytes.now found.bodies found.end) }
     ensures fault { IfErr result (IsWrong (shape_by capacity sites) bytes.now) }
@@ -46,7 +45,6 @@ pub(crate) fn read_book(
 
 // What the bytes are a book of that begins as one of two areas does.
 fn read_two(alloc: Global, bytes: &[u8], capacity: u64, sites: u8) -> Result<Found, JournalFault>
-    requires sites { sites ≤ 8 }
     requires least { 47 ≤ capacity }
     requires long { 8 < length bytes.now }
     requires header { take 8 bytes.now ≡ header_of_two }
@@ -92,7 +90,6 @@ fn part_of(bytes: &[u8], place: usize, size: usize) -> &[u8]
 
 // The bodies of an area, and the place in it behind the gate that ends them. A fault tells a place in it.
 fn read_area(alloc: Global, area: &[u8], sites: u8) -> Result<(Bodies, usize), JournalFault>
-    requires { sites ≤ 8 }
     ensures ok { IfOk result (λ found. IsAreaRead sites area.now found.0 found.1) }
     ensures fault { IfErr result (IsAreaWrong sites area.now) }
 {

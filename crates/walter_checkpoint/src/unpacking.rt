@@ -52,7 +52,6 @@ fn restored(alloc: Global, spelled: &[u8], sites: u8) -> Result<Option<Vec<u8>>,
 
 // The body that is spelled so where nothing is left out.
 fn whole(alloc: Global, spelled: &[u8], sites: u8) -> Result<Option<Vec<u8>>, AllocError>
-    requires { sites ≤ 8 }
     ensures some { IfOk result (λ found. IfSome found (λ body.
         (body.items ≡ spelled.now) × (is_cut sites spelled.now ≡ false))) }
     ensures none { IfOk result (λ found. IfNone found (is_cut sites spelled.now ≡ true)) }
@@ -70,7 +69,6 @@ fn body_of(
     spelled: &[u8],
     sites: u8,
 ) -> Result<Option<Vec<u8>>, AllocError>
-    requires sites { sites ≤ 8 }
     requires short { length spelled.now ≤ 65536 }
     ensures some { IfOk result (λ found. IfSome found (λ body. IsShort body.items
         × (entry_of sites body.items ≡ mark ∷ record_of spelled.now))) }
@@ -85,7 +83,6 @@ fn body_of(
 
 // The body of the entry that the bytes begin with, and what follows it, a byte at least.
 fn entry_at(alloc: Global, bytes: &[u8], sites: u8) -> Result<Option<(Vec<u8>, &[u8])>, AllocError>
-    requires { sites ≤ 8 }
     ensures some { IfOk result (λ found. IfSome found (λ it. IsShort it.0.items
         × (bytes.now ≡ entry_of sites it.0.items ++ it.1.now) × (0 < length it.1.now))) }
     ensures none { IfOk result (λ found. IfNone found (HasNoEntry sites bytes.now)) }
@@ -104,7 +101,6 @@ fn entry_at(alloc: Global, bytes: &[u8], sites: u8) -> Result<Option<(Vec<u8>, &
 
 // The bodies of the entries that the bytes are, but for the last byte.
 fn read_entries(alloc: Global, bytes: &[u8], sites: u8) -> Result<Option<Bodies>, AllocError>
-    requires sites { sites ≤ 8 }
     requires more { 0 < length bytes.now }
     ensures some { IfOk result (λ found. IfSome found (HasEntries sites bytes.now)) }
     ensures none { IfOk result (λ found. IfNone found (HasNoEntries sites bytes.now)) }
@@ -127,7 +123,6 @@ pub(crate) fn read_pack(
     area: &[u8],
     sites: u8,
 ) -> Result<Option<(Bodies, usize)>, AllocError>
-    requires { sites ≤ 8 }
     ensures some { IfOk result (λ found. IfSome found (λ it. HasPack sites area.now it.0 it.1)) }
     ensures none { IfOk result (λ found. IfNone found (HasNoPack sites area.now)) }
 {

@@ -8,7 +8,8 @@ use Rattle.walter_engine.specs.Begins.{HasNoRecord}
 use Rattle.walter_engine.specs.declared.answers.BeginFault.{BeginFault}
 use Rattle.walter_engine.specs.declared.answers.BeginFault.TheVariants as unbegun
 use Rattle.walter_rules.specs.declared.entry.Entry.{Entry}
-use Rattle.walter_base.specs.Vectors.{most_sites}
+use Rattle.walter_base.specs.declared.format.Format.TheVariants.{First}
+use Rattle.walter_base.specs.Sizes.{most_in}
 use Rattle.walter_linked.specs.Catalogs.{IsWhole}
 use Rattle.walter_play.specs.Scripts.{AreArmed, EndsPlay, arms_of}
 use Rattle.walter_scenario.specs.Parts.{IsArm, IsStep, IsAreas, IsCapacity, IsThreads}
@@ -45,7 +46,7 @@ IsPoseFault (Say text) before after faults faults' fault = ⊥
 -- these sites; its clients can be numbered, and its threads made; and a journal has place for an epoch in each of its areas
 pub record IsPlayable (s : Scenario) : Type 0 where
   pub some : 0 < s.catalog.sites
-  pub few : s.catalog.sites ≤ most_sites
+  pub few : s.catalog.sites ≤ most_in First
   pub fewer : s.catalog.tolerated < s.catalog.sites
   pub whole : IsWhole s.catalog
   pub within : All (λ (client : Client). client.site.0 < s.catalog.sites) s.clients

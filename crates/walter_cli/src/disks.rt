@@ -1,6 +1,7 @@
 //! The disks of a run: they are taken from a rack, and given back.
 ghost use Rattle.std.specs.Prelude.{◌≡◌, ◌<◌, ◌≤◌, ◌+◌, length, IfOk, IfErr, OnOk};
-ghost use Rattle.walter_base.specs.Vectors.{most_sites};
+ghost use Rattle.walter_base.specs.declared.format.Format.TheVariants.{First};
+ghost use Rattle.walter_base.specs.Sizes.{most_in};
 ghost use Rattle.walter_cli.specs.Disks.{AreTaken, AreGiven, IsFirstLost, lost_after};
 ghost use Rattle.walter_cli.specs.Ending.{EndsEarly};
 ghost use Rattle.walter_cli.specs.Racks.{rack_at, racked};
@@ -16,7 +17,7 @@ pub fn take_all<R: Rack>(
     rack: &mut R,
     scenario: &Scenario,
 ) -> Result<Vec<R::D>, Fault>
-    requires few { scenario.now.catalog.sites ≤ most_sites }
+    requires few { scenario.now.catalog.sites ≤ most_in First }
     ensures taken { IfOk result (λ disks. (length disks.items ≡ scenario.now.catalog.sites) × AreTaken R.D.Disk
         (rack_at R.Rack rack.old) (rack_at R.Rack rack.new)
         disks.items) }
@@ -42,7 +43,7 @@ pub fn take_all<R: Rack>(
 
 /// Gives the disks of the first sites back, in order, or answers the first site whose disk the rack lost.
 pub fn give_all<R: Rack>(rack: &mut R, disks: Vec<R::D>) -> Result<(), u8>
-    requires few { length disks.items ≤ most_sites }
+    requires few { length disks.items ≤ most_in First }
     ensures given { AreGiven
         (rack_at R.Rack rack.old) (rack_at R.Rack rack.new)
         0 disks.items }

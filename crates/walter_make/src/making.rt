@@ -1,6 +1,7 @@
 //! Makes a scenario of a number.
 ghost use Rattle.std.specs.Prelude.{◌≡◌, ◌≤◌, ◌<◌, length, All, IfOk};
-ghost use Rattle.walter_base.specs.Vectors.{most_sites};
+ghost use Rattle.walter_base.specs.declared.format.Format.TheVariants.{First};
+ghost use Rattle.walter_base.specs.Sizes.{most_in};
 ghost use Rattle.walter_scenario.specs.Parts.{IsAreas, IsArm, IsRoom, IsStep};
 ghost use Rattle.walter_make.specs.Made.{made, made_catalog};
 
@@ -20,7 +21,7 @@ pub fn make(alloc: Global, number: u64, calls: u32) -> Mem<Scenario>
     ensures made { IfOk result (λ scenario. scenario ≡ made number calls) }
     // It can be built and played.
     ensures some { IfOk result (λ scenario. 0 < scenario.catalog.sites) }
-    ensures few { IfOk result (λ scenario. scenario.catalog.sites ≤ most_sites) }
+    ensures few { IfOk result (λ scenario. scenario.catalog.sites ≤ most_in First) }
     ensures fewer { IfOk result (λ scenario. scenario.catalog.tolerated < scenario.catalog.sites) }
     ensures place { IfOk result (λ scenario. 19 ≤ scenario.capacity) }
     ensures areas { IfOk result (λ scenario. IsAreas scenario.areas scenario.capacity) }

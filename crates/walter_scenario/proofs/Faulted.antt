@@ -2,7 +2,8 @@
 use Rattle.std.proofs.Common.{◌≡◌, ◌≤◌, ◌<◌, ℕ, List, length, Some, sym, ap, ◌∙◌, subst}
 use Rattle.serde_json.specs.View.{view}
 use Rattle.walter_base.specs.declared.catalog.Catalog.{Catalog}
-use Rattle.walter_base.specs.Vectors.{most_sites}
+use Rattle.walter_base.specs.declared.format.Format.TheVariants.{First}
+use Rattle.walter_base.specs.Sizes.{most_in}
 use Rattle.walter_scenario.specs.declared.grounds.Grounds.{Grounds}
 use Rattle.walter_scenario.specs.declared.members.Parts.{Parts}
 use Rattle.walter_scenario.specs.declared.place.Detail.{Detail}
@@ -20,7 +21,7 @@ use Rattle.walter_scenario.specs.Scenarios.{GivesCapacity, GivesAreas, GivesRoom
 
 pub fault_of_room : (parts : Parts) (sites tolerated : ℕ) (catalog : Catalog) (clients : List Client)
     (capacity areas : ℕ) (detail : Detail)
-    → (1 ≤ sites) × (sites ≤ most_sites) → view parts.sites.now ≡ whole sites
+    → (1 ≤ sites) × (sites ≤ most_in First) → view parts.sites.now ≡ whole sites
     → tolerated < sites → view parts.tolerated.now ≡ whole tolerated
     → IsCatalog sites tolerated (view parts.containers.now) catalog
     → ListsClients sites (view parts.clients.now) clients

@@ -5,7 +5,8 @@ use Rattle.serde_json.specs.Data.{Data, Members, no_members, member, object}
 use Rattle.serde_json.specs.Find.{get_member}
 use Rattle.serde_json.specs.Read.{read}
 use Rattle.walter_base.specs.Catalogs.{Item, containers_of}
-use Rattle.walter_base.specs.Vectors.{most_sites}
+use Rattle.walter_base.specs.declared.format.Format.TheVariants.{First}
+use Rattle.walter_base.specs.Sizes.{most_in}
 use Rattle.walter_link.specs.declared.chooser.Link.{Link}
 use Rattle.walter_scenario.specs.declared.place.Place.{Place}
 use Rattle.walter_scenario.specs.declared.place.Place.TheVariants.{TooLong, Json, Key, Sites, F, Containers, Clients, Capacity, Areas, Room, Link as AtLink, Ticks, Threads, Arms, Steps}
@@ -97,7 +98,7 @@ pub record HasSites (bytes : List ℕ) (members : Members) (sites : ℕ) : Type 
   pub has_keys : HasKeys bytes members
   pub spelled : HasMember members (codes "sites") (whole sites)
   pub some : 1 ≤ sites
-  pub most : sites ≤ most_sites
+  pub most : sites ≤ most_in First
 
 -- of which so many may be lost
 pub record HasTolerated (bytes : List ℕ) (members : Members) (sites tolerated : ℕ) : Type 0 where
@@ -184,7 +185,7 @@ IsRefusedAt bytes Json = IsWithinLimit bytes × ((members : Members) → ¬ IsJs
 IsRefusedAt bytes Key = IsWithinLimit bytes × ((members : Members) × IsJsonObject bytes members × ¬ AreKeys members)
 IsRefusedAt bytes Sites =
     (members : Members) × HasKeys bytes members
-    × ((sites : ℕ) → 1 ≤ sites → sites ≤ most_sites → ¬ HasMember members (codes "sites") (whole sites))
+    × ((sites : ℕ) → 1 ≤ sites → sites ≤ most_in First → ¬ HasMember members (codes "sites") (whole sites))
 IsRefusedAt bytes F =
     (members : Members) × (sites : ℕ) × HasSites bytes members sites
     × ((tolerated : ℕ) → tolerated < sites → ¬ HasMember members (codes "f") (whole tolerated))

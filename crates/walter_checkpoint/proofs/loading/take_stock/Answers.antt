@@ -10,7 +10,6 @@ use Rattle.walter_checkpoint.proofs.loading.take_stock.Goals as goal
 
 pub renewal-requires : goal.renewal-requires
 renewal-requires g c = record {
-  sites = c.requires.sites;
   short = short_items (λ body. body.items) c.as_slice.result.now (subst (λ l. All IsShort l) (sym c.as_slice.ensures) (read_short _ _ _ _ _ c.requires.opened.read));
 }
 

@@ -1,7 +1,9 @@
 use Rattle.std.proofs.Common.{◌≤◌, refl, sym, ap, subst, ◌∙◌, arith}
+use Rattle.walter_disk.specs.Disks.{DiskState}
 use Rattle.walter_disk.specs.Images.{IsDurable, LeavesOnly}
+use Rattle.walter_checkpoint.specs.Areas.{area_size}
 use Rattle.walter_checkpoint.specs.Books.{HasLaid, disk_of, shape_of}
-use Rattle.walter_checkpoint.proofs.Booking.{wrote, switched, stands_anew, changes, stands_packed, goes_on, calls_are, other_is}
+use Rattle.walter_checkpoint.proofs.Booking.{wrote, switched, stands_anew, changes, stands_packed, goes_on, switch_is, calls_are, other_is}
 use Rattle.walter_checkpoint.proofs.book.Book.pack.Goals as goal
 
 pub returns-in_err-write_pack-clause-any_moment : goal.returns-in_err-write_pack-clause-any_moment
@@ -49,6 +51,14 @@ returns-clause-goes_on g c bodies ready =
 
 pub returns-clause-stands : goal.returns-clause-stands
 returns-clause-stands g c bodies stands ready = stands_packed c.args.self.now.live c.args.self.now _ bodies c.in_default.not-Whole (returns-clause-ok g c bodies stands ready)
+
+pub returns-clause-switch : goal.returns-clause-switch
+returns-clause-switch g c not_whole =
+    let known = g.D.Disk.known in
+    let mid = known c.write_pack.new.journal.disk in
+    let long : 9 ≤ mid.size = omega (arith, c.args.self.now.journal.begun, c.args.self.now.journal.within, ap (λ (disk : DiskState). disk.size) c.in_ok-write_pack.ensures.done) in
+    switch_is (area_size (shape_of c.args.self.now)) c.args.self.now.live c.other_area-at.result mid _ c.other_area-at.ensures long (g.met.D.Disk.size_is _)
+    (ap known c.go_on.ensures.disk ∙ c.in_ok-write_elsewhere.ensures.done)
 
 pub returns-clause-room : goal.returns-clause-room
 returns-clause-room g c n room =
