@@ -1,9 +1,5 @@
-<<<<<<< HEAD
 //! A book on a disk: bodies are appended to its live area, and packed into the other.
-ghost use Rattle.std.specs.Prelude.{◌≡◌, ◌≢◌, ◌^◌, ◌+◌, ◌≤◌, ◌-◌, ◌/◌, ◌++◌, ◌∷◌, ℕ, List, length, option_map, is_some, is_err, true, false, [], min, ◌<◌, Err, OnOk, OnErr};
-=======
 ghost use Rattle.std.specs.Prelude.{◌≡◌, ◌≢◌, ◌^◌, ◌+◌, ◌≤◌, ◌-◌, ◌/◌, ◌++◌, ◌∷◌, ℕ, List, length, option_map, is_some, is_err, slice_get, true, false, [], min, ◌<◌, Err, Some, IfSome, OnOk, OnErr};
->>>>>>> bd9aac3e3ac1590f3899c295e070e0608b4672bc
 ghost use Rattle.walter_disk.specs.Disks.{written, Fails, TakesRoom};
 ghost use Rattle.walter_disk.specs.Images.{IsDurable, LeavesOnly};
 ghost use Rattle.walter_checkpoint.specs.Books.{areas_of, HasLaid, IsLaidBeforeOrBehind};
