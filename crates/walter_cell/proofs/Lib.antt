@@ -8,3 +8,4 @@ pub mod Taken
 pub mod Turns
 pub mod Meeting
 pub mod Works
+pub mod SentAlike

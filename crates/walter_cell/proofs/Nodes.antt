@@ -23,7 +23,8 @@ use Rattle.walter_packet.specs.Spelling.{HasPacketSpelling}
 use Rattle.walter_rules.specs.declared.entry.Came.{Came}
 use Rattle.walter_rules.specs.declared.entry.Entry.{Entry}
 use Rattle.walter_rules.specs.declared.event.Event.{Event}
-use Rattle.walter_rules.specs.Layouts.{Layout, left_behind, one_area, two_areas}
+use Rattle.walter_cell.proofs.SentAlike.{sends_alike}
+use Rattle.walter_rules.specs.Layouts.{Layout, header_of, left_behind, one_area, two_areas}
 use Rattle.walter_rules.specs.Sending.{Send}
 use Rattle.walter_rules.specs.Standing.{Standing, settled, stands_after, carried_after}
 use Rattle.walter_rules.specs.Trails.{Comes, IsFound, IsPutOut, IsNextStamp, AreRight, IsRightTrail, clock, opening, standing}
@@ -92,8 +93,8 @@ module _ (S : Standing) (carried : SiteId → ℕ) where
       flight (Some rec) is = record { sizes = is.sizes; follows = is.follows }
 
   left_carrying : (layout : Layout) → left_behind layout (carrying carried S) ≡ left_behind layout S
-  left_carrying (one_area capacity) = refl
-  left_carrying (two_areas capacity sites) = refl
+  left_carrying (one_area capacity header) = refl
+  left_carrying (two_areas capacity sites header) = refl
 
   stored_carrying : {D : Type 0} {g : Ghosts D} (layout : Layout) (book : Option (Book D g)) (bare : Option D)
       → IsStored layout S book bare → IsStored layout (carrying carried S) book bare
@@ -111,7 +112,7 @@ module _ (S : Standing) (carried : SiteId → ℕ) where
       count = m.count;
       owed = m.owed;
     };
-    spelled = let s = stands.spelled in record { records = s.records; flight = s.flight };
+    spellings = let s = stands.spellings in record { records = s.records; flight = s.flight };
     stored = stored_carrying (layout_in engine) engine.book engine.disk stands.stored;
   }
 
@@ -220,8 +221,10 @@ module _ {D : Type 0} {g : Ghosts D} where
         inr (
           own,
           grown,
-          drops_where_full catalog layout i T event came (met_to old.outs) sends dropped none
-              (agree_out (met_to old.outs) (carried_by old.outs) T.carried came.sends sends dropped agree free) comes,
+          subst (λ (planned : List Send). ((sends ≡ []) × (dropped ≡ 0))
+              ⊎ IsPutWhereFree (met_to old.outs) T.carried planned sends dropped) (sends_alike (header_of layout) catalog i T event)
+              (drops_where_full catalog layout i T event came (met_to old.outs) sends dropped none
+              (agree_out (met_to old.outs) (carried_by old.outs) T.carried came.sends sends dropped agree free) comes),
         )
       where
         agree : AgreeOnLanes (met_to old.outs) (carried_by old.outs) (settled catalog i came.kept S).carried

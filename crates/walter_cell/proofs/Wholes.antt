@@ -6,17 +6,16 @@ use Rattle.walter_base.specs.declared.names.SiteId.{SiteId}
 use Rattle.walter_disk.specs.Disks.{DiskState}
 use Rattle.walter_disk.specs.declared.disk.Disk.{Ghosts}
 use Rattle.walter_engine.proofs.Resting.{leaves_bodies, may_have}
-use Rattle.walter_engine.specs.Contents.{HasBodies, MayHaveRecords}
+use Rattle.walter_engine.specs.Contents.{HasBodies, MayHaveRecords, spelled}
 use Rattle.walter_engine.specs.Engines.{catalog_in, site_in, layout_in, disk_in, IsSameEngine, Stands}
 use Rattle.walter_engine.specs.Stores.{disk_under, IsStored}
 use Rattle.walter_engine.specs.declared.engine.Engine.{Engine}
 use Rattle.walter_checkpoint.specs.declared.book.Book.{Book}
-use Rattle.walter_record.specs.Spelling.{record_spelled}
 use Rattle.walter_lane.specs.Lanes.{Sending}
 use Rattle.walter_outbox.specs.Lanes.{HavePut, out_rings, mets, met_to}
 use Rattle.walter_rules.specs.declared.entry.Came.{Came}
 use Rattle.walter_rules.specs.declared.event.Event.{Event}
-use Rattle.walter_rules.specs.Layouts.{Layout}
+use Rattle.walter_rules.specs.Layouts.{Layout, header_of}
 use Rattle.walter_rules.specs.Standing.{Standing}
 use Rattle.walter_rules.specs.Trails.{standing}
 use Rattle.walter_site.specs.Members.{IsShortOutcome}
@@ -73,8 +72,8 @@ module _ {D : Type 0} {g : Ghosts D} where
   leaves_stored layout S None None is = tt
   leaves_stored layout S (Some book) bare is = λ image left.
       may_have layout S.records S.flight image
-      (subst (λ (l : Layout). HasBodies l image (map record_spelled S.records)) is.laid
-      (leaves_bodies g book (map record_spelled S.records) is.stands image left))
+      (subst (λ (l : Layout). HasBodies l image (spelled (header_of layout) S.records)) is.laid
+      (leaves_bodies g book (spelled (header_of layout) S.records) is.stands image left))
   leaves_stored layout S None (Some disk) is = is.images
 
   -- a site with its trail and its lanes is sound

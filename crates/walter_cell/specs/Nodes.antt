@@ -2,6 +2,7 @@
 use Rattle.std.specs.Prelude.{◌≡◌, ◌<◌, ◌≤◌, ◌⊎◌, ◌+◌, ◌^◌, ℕ, Bool, true, false, List, [], ◌∷◌, ◌++◌, Option, Some, None, IfSome, All}
 use Rattle.std.specs.Prelude.{length, reverse, slice_get, count_by, is_some}
 use Rattle.walter_base.specs.declared.catalog.Catalog.{Catalog}
+use Rattle.walter_base.specs.declared.format.Format.TheVariants.{First}
 use Rattle.walter_base.specs.declared.names.SiteId.{SiteId}
 use Rattle.walter_disk.specs.declared.disk.Disk.{Ghosts}
 use Rattle.walter_engine.specs.Contents.{MayHaveRecords}
@@ -65,12 +66,13 @@ abbrev pub entry_by : ℕ → Event → Came → Entry
 entry_by stamp event came = record { stamp = stamp; event = event; came = came }
 
 -- what this entry puts out is all that the rule says, but for what finds its lane full, which is dropped; or it puts
--- out nothing, and drops nothing. So many packets had been put for each site when the ends of its lane last met
+-- out nothing, and drops nothing. What it says to put out is the same over a journal of either format. So many packets
+-- had been put for each site when the ends of its lane last met
 abbrev pub DropsWhereFull : Catalog → SiteId → (ℕ → ℕ) → List Entry → Entry → Type 0
 DropsWhereFull catalog i met older e =
     ((e.came.sends ≡ []) × (e.came.dropped ≡ 0))
     ⊎ IsPutWhereFree met (settled catalog i e.came.kept (standing catalog i older)).carried
-    (rule catalog i (settled catalog i e.came.kept (standing catalog i older)) e.event).sends e.came.sends
+    (rule First catalog i (settled catalog i e.came.kept (standing catalog i older)) e.event).sends e.came.sends
     e.came.dropped
 
 -- so does the entry that comes to a trail, if one does

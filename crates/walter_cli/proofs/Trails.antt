@@ -6,6 +6,7 @@ use Rattle.std.proofs.lemmas.List.Elements.{All-weaker, All-push}
 use Rattle.std.proofs.lemmas.Option.{slice_get-map, slice_get-get_or, get_or_from_slice_get}
 use Rattle.walter_base.specs.declared.catalog.Catalog.{Catalog}
 use Rattle.walter_base.proofs.NameTests.{same_site-true}
+use Rattle.walter_base.specs.declared.format.Format.TheVariants.{First}
 use Rattle.walter_base.specs.declared.names.SiteId.{SiteId}
 use Rattle.walter_alone.proofs.Promised.{entry_answered, entry_received, entry_seen, entry_locked, entry_hindered}
 use Rattle.walter_cell.specs.Cells.{CellValue, IsCell}
@@ -178,10 +179,10 @@ module _ {D : Type 0} (g : Ghosts D) (t : Scenario) (bench : BenchValue D) (of :
 
   -- how the journal of a site is laid out
   abbrev layouts : SiteId → Layout
-  layouts i = slice_index_or (map (λ (c : CellValue D). c.node.layout) bench.cells) i.0 (one_area 0)
+  layouts i = slice_index_or (map (λ (c : CellValue D). c.node.layout) bench.cells) i.0 (one_area 0 First)
 
   layout_is : (i : ℕ) (cell : CellValue D) → slice_get bench.cells i ≡ Some cell → layouts (site_at i) ≡ cell.node.layout
-  layout_is i cell at = field_at (λ (c : CellValue D). c.node.layout) bench.cells i cell (one_area 0) at
+  layout_is i cell at = field_at (λ (c : CellValue D). c.node.layout) bench.cells i cell (one_area 0 First) at
 
   -- a trail that is right of its node, is right of its site
   right_of : (i : ℕ) (cell : CellValue D) → slice_get bench.cells i ≡ Some cell

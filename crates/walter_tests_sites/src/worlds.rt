@@ -44,7 +44,8 @@ fn what_of(alloc: Global, entry: &Entry, clients: &mut [Frames]) -> Mem<What> {
             number: *number,
         },
         Event::Given(Input::Advance { from }) => What::Advance { from: *from },
-        Event::Given(Input::Tick) => What::Tick,
+        // No scenario upgrades a site.
+        Event::Given(Input::Tick | Input::Upgrade) => What::Tick,
         Event::Stop => What::Stop,
         Event::Restart => What::Restart {
             kept: entry.came.kept.as_ref().is_some(),
