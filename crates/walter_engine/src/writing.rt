@@ -62,6 +62,7 @@ pub(crate) fn put<D: Disk>(
     requires anyway { IsReadyAnyway (catalog_in machine.old) (site_in machine.old) (tables_in machine.old) event.now
         ready.old }
     requires alone { IsOutcomeAlone came.old }
+    requires sites { (catalog_in machine.old).sites ≤ most_in format }
     requires spelled { IsSpellingIfAny format book.old (rec_in ready.old) body }
     ensures { Writes D.Disk format machine.old machine.new book.old book.new event.now ready.old came.new
         result.items }
