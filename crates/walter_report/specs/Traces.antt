@@ -2,6 +2,7 @@
 use Rattle.std.specs.Prelude.{List, ℕ, ◌++◌, map, flat_map, codes, Option, Some, None, Result, Ok, Err, IfSome, All}
 use Rattle.std.specs.Fmt.{decimal}
 use Rattle.hex.specs.Hex.{encode_lower}
+use Rattle.walter_base.specs.declared.format.Format.TheVariants.{First}
 use Rattle.walter_base.specs.declared.message.BadFrame.{BadFrame}
 use Rattle.walter_base.specs.declared.message.Record.{Record}
 use Rattle.walter_base.specs.declared.message.Request.{Request}
@@ -9,13 +10,13 @@ use Rattle.walter_base.specs.declared.message.Request.TheVariants.{Start, Read, 
 use Rattle.walter_base.specs.declared.packet.Packet.{Packet}
 use Rattle.walter_base.specs.declared.packet.Packet.TheVariants.{Propagate, Ack, Dsmark, Visible, Prepare, Vote, Release, Released}
 use Rattle.walter_base.specs.Sizes.{CanBeRecorded}
-use Rattle.walter_record.specs.Spelling.{record_spelled}
+use Rattle.walter_record.specs.Spelling.{record_spelled, FitsFormat}
 use Rattle.walter_rules.specs.declared.entry.Came.{Came}
 use Rattle.walter_rules.specs.declared.entry.Entry.{Entry}
 use Rattle.walter_rules.specs.declared.event.Event.{Event}
 use Rattle.walter_rules.specs.declared.event.Event.TheVariants.{Given, Stop, Restart}
 use Rattle.walter_rules.specs.declared.event.Input.{Input}
-use Rattle.walter_rules.specs.declared.event.Input.TheVariants.{Call, Deliver, Advance, Tick}
+use Rattle.walter_rules.specs.declared.event.Input.TheVariants.{Call, Deliver, Advance, Tick, Upgrade}
 use Rattle.walter_rules.specs.declared.outcome.Outcome.{Outcome}
 use Rattle.walter_rules.specs.declared.outcome.Outcome.TheVariants.{Replied, Taken, Passed, Failed, Full, Memory, Down, Refused}
 use Rattle.walter_rules.specs.Merges.{Named, merge}
@@ -23,11 +24,16 @@ use Rattle.walter_rules.specs.Sending.{Send}
 use Rattle.walter_report.specs.Reports.{reply_frame}
 use Rattle.walter_report.specs.Words.{line_feed, listed}
 
--- each record of an entry has a spelling
+-- a record has a spelling in the first format
+pub record CanBeTold (rec : Record) : Type 0 where
+  pub sizes : CanBeRecorded rec
+  pub fits : FitsFormat First rec
+
+-- each record of an entry has one
 pub record HasSpellings (e : Entry) : Type 0 where
-  pub kept : IfSome e.came.kept CanBeRecorded
-  pub wrote : IfSome e.came.wrote CanBeRecorded
-  pub flight : IfSome e.came.flight CanBeRecorded
+  pub kept : IfSome e.came.kept CanBeTold
+  pub wrote : IfSome e.came.wrote CanBeTold
+  pub flight : IfSome e.came.flight CanBeTold
 
 -- each record in the trails has one
 abbrev pub HaveSpellings : List (List Entry) → Type 0
@@ -58,13 +64,15 @@ packet_word (Vote slow answer) = codes "vote"
 packet_word (Release slow) = codes "release"
 packet_word (Released slow) = codes "released"
 
--- what is given to a site: a call, a packet by its sender and number, what is to be committed of a site, a tick
+-- what is given to a site: a call, a packet by its sender and number, what is to be committed of a site, a tick, an
+-- upgrade
 abbrev pub input_text : Input → List ℕ
 input_text (Call client call) = codes "call:" ++ decimal client ++ codes ":" ++ call_word call
 input_text (Deliver from number packet) =
     codes "deliver:" ++ decimal from.0 ++ codes ":" ++ decimal number ++ codes ":" ++ packet_word packet
 input_text (Advance from) = codes "advance:" ++ decimal from.0
 input_text Tick = codes "tick"
+input_text Upgrade = codes "upgrade"
 
 abbrev pub event_text : Event → List ℕ
 event_text (Given input) = input_text input
@@ -81,10 +89,10 @@ outcome_text Memory = codes "memory"
 outcome_text Down = codes "down"
 outcome_text Refused = codes "refused"
 
--- a record in hex, or a dash
+-- a record in hex, in the first format, or a dash
 abbrev pub record_text : Option Record → List ℕ
 record_text None = codes "-"
-record_text (Some rec) = encode_lower (record_spelled rec)
+record_text (Some rec) = encode_lower (record_spelled First rec)
 
 -- what is put out: "<to>:<packet>" for each
 abbrev pub send_text : Send → List ℕ

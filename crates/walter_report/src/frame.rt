@@ -1,13 +1,14 @@
 //! Bytes that are to become digits.
 ghost use Rattle.std.specs.Prelude.{◌≡◌, [], IfOk};
-ghost use Rattle.walter_base.specs.Sizes.{CanBeRecorded};
+ghost use Rattle.walter_base.specs.declared.format.Format.TheVariants.{First};
 ghost use Rattle.walter_record.specs.Spelling.{record_spelled};
 ghost use Rattle.walter_reply.specs.Replies.{FitsFrame};
 ghost use Rattle.walter_report.specs.Reports.{reply_frame};
+ghost use Rattle.walter_report.specs.Traces.{CanBeTold};
 
 use std::alloc::Global;
 use std::marker::Model;
-use walter_base::{Mem, NoMemory, Record, Reply};
+use walter_base::{Format, Mem, NoMemory, Record, Reply};
 use walter_fields::Appender;
 
 // The longest frame of a reply. No record has as many bytes.
@@ -56,12 +57,12 @@ impl Frame {
         walter_reply::append(&mut self.bytes, reply);
     }
 
-    /// A record as a journal has it, in the place of what was written.
+    /// A record as a journal of the first format has it, in the place of what was written.
     pub fn write_record(&mut self, stable: &Record)
-        requires { CanBeRecorded stable.now }
-        ensures { self.new ≡ record_spelled stable.now }
+        requires { CanBeTold stable.now }
+        ensures { self.new ≡ record_spelled First stable.now }
     {
         self.bytes.clear();
-        walter_record::append(&mut self.bytes, stable);
+        walter_record::append(&mut self.bytes, stable, Format::First);
     }
 }

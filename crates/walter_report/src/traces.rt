@@ -1,11 +1,10 @@
 //! The trace: a line for each entry.
 ghost use Rattle.std.specs.Prelude.{◌≡◌, ◌++◌, ◌∷◌, [], flat_map, codes, All, IfSome};
-ghost use Rattle.walter_base.specs.Sizes.{CanBeRecorded};
 ghost use Rattle.walter_reply.specs.Replies.{FitsFrame};
 ghost use Rattle.walter_report.specs.Lists.{list_behind};
 ghost use Rattle.walter_report.specs.Pages.{Puts};
 ghost use Rattle.walter_report.specs.Reports.{reply_in};
-ghost use Rattle.walter_report.specs.Traces.{HasSpellings, call_word, packet_word, input_text, event_text, outcome_text, record_text, send_text, sends_text, happened_part, records_part, sends_part, trace_line};
+ghost use Rattle.walter_report.specs.Traces.{CanBeTold, HasSpellings, call_word, packet_word, input_text, event_text, outcome_text, record_text, send_text, sends_text, happened_part, records_part, sends_part, trace_line};
 
 use crate::frame::Frame;
 use crate::lists::comma_behind;
@@ -95,7 +94,7 @@ fn put_record<K: Sink>(
     frame: &mut Frame,
     found: &MaybeRecord,
 ) -> Result<(), Failed>
-    requires { IfSome found.now CanBeRecorded }
+    requires { IfSome found.now CanBeTold }
     ensures { Puts K.holds K.faults sink.old sink.new page.old page.new
         (codes " " ++ record_text found.now) result }
 {
@@ -243,6 +242,7 @@ fn put_input<K: Sink>(page: &mut Page, sink: &mut K, input: &Input) -> Result<()
             &[Part::Word("advance:"), Part::Number(from.0 as u128)],
         ),
         Input::Tick => page.put(sink, b"tick"),
+        Input::Upgrade => page.put(sink, b"upgrade"),
     }
 }
 

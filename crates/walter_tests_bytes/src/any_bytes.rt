@@ -8,7 +8,7 @@ use serde_json::Value;
 use std::alloc::Global;
 use std::process::Abort;
 use std::test::Fail;
-use walter_base::Bytes;
+use walter_base::{Bytes, Format};
 use walter_hostile::Hostile;
 use walter_reply::ReplyFault;
 use walter_request::RequestFault;
@@ -26,21 +26,24 @@ const FEW_TEXTS: usize = 20;
 /// The most bytes that an input may have: those of the body of a frame.
 const LONGEST: usize = 65_536;
 
-/// What reads bytes of which each value has one spelling. Transactions, records and packets are those of two sites.
+/// What reads bytes of which each value has one spelling. Transactions, records and packets are those of two sites, and
+/// but for one kind of records in the first format.
 #[derive(Clone, Copy, Debug, PartialEq, Eq)]
 enum Reader {
     Request,
     Reply,
     Transaction,
     Record,
+    SecondRecord,
     Packet,
 }
 
-const READERS: [Reader; 5] = [
+const READERS: [Reader; 6] = [
     Reader::Request,
     Reader::Reply,
     Reader::Transaction,
     Reader::Record,
+    Reader::SecondRecord,
     Reader::Packet,
 ];
 
@@ -74,6 +77,7 @@ fn bases_of(alloc: Global, reader: Reader) -> Result<Vec<Vec<u8>>, Fail> {
         Reader::Reply => Ok(copies_of(alloc, &replies::SPELLINGS)?),
         Reader::Transaction => transactions::spellings(alloc),
         Reader::Record => Ok(joined_each(alloc, &records::SPELLINGS)?),
+        Reader::SecondRecord => Ok(joined_each(alloc, &records::SECOND_SPELLINGS)?),
         Reader::Packet => Ok(joined_each(alloc, &packets::SPELLINGS)?),
     }
 }
@@ -102,16 +106,17 @@ fn reply_again(alloc: Global, bytes: &[u8]) -> Result<Option<Bytes>, Fail>
 
 /// The same of a transaction.
 fn transaction_again(alloc: Global, bytes: &[u8]) -> Result<Option<Bytes>, Fail> {
-    match walter_txcode::decode(alloc, bytes, 2)? {
-        Some(tx) => Ok(Some(walter_txcode::encode(alloc, &tx)?)),
+    match walter_txcode::decode(alloc, bytes, 2, Format::First)? {
+        Some(tx) => Ok(Some(walter_txcode::encode(alloc, &tx, Format::First)?)),
         None => Ok(None),
     }
 }
 
 /// The same of a record.
-fn record_again(alloc: Global, bytes: &[u8]) -> Result<Option<Bytes>, Fail> {
-    match walter_record::decode(alloc, bytes, 2)? {
-        Some(journaled) => Ok(Some(walter_record::encode(alloc, &journaled)?)),
+#[tactic(auto, using(crate::proofs::Formats::formats))]
+fn record_again(alloc: Global, bytes: &[u8], format: Format) -> Result<Option<Bytes>, Fail> {
+    match walter_record::decode(alloc, bytes, 2, format)? {
+        Some(journaled) => Ok(Some(walter_record::encode(alloc, &journaled, format)?)),
         None => Ok(None),
     }
 }
@@ -132,7 +137,8 @@ fn again(alloc: Global, reader: Reader, bytes: &[u8]) -> Result<Option<Bytes>, F
         Reader::Request => request_again(alloc, bytes),
         Reader::Reply => reply_again(alloc, bytes),
         Reader::Transaction => transaction_again(alloc, bytes),
-        Reader::Record => record_again(alloc, bytes),
+        Reader::Record => record_again(alloc, bytes, Format::First),
+        Reader::SecondRecord => record_again(alloc, bytes, Format::Second),
         Reader::Packet => packet_again(alloc, bytes),
     }
 }

@@ -1,5 +1,5 @@
 //! Tests of packets as bytes.
-use crate::parts::{HELL, LISTS, MOST, NUMBER_1, OBJECT, TID, joined, with_objects};
+use crate::parts::{LISTS, MOST, NUMBER_1, OBJECT, SECOND_HELL, TID, joined, with_objects};
 use std::alloc::Global;
 use std::test::Fail;
 use walter_base::{Answer, Conflict, Packet};
@@ -42,14 +42,20 @@ fn read(alloc: Global, bytes: &[u8]) -> Result<(u8, u64, u64), Fail> {
 
 /// Each row: the bytes of a packet, in parts, and what it says.
 pub(crate) static SPELLINGS: [(&[&[u8]], (u8, u64, u64)); 17] = [
-    (&[&[1, 0, 0, 0, 0, 0, 0, 0, 7], &HELL, b"o"], (1, 7, 1)),
+    (
+        &[&[1, 0, 0, 0, 0, 0, 0, 0, 7], &SECOND_HELL, b"o"],
+        (1, 7, 1),
+    ),
     (&[&[2], &[0; 8]], (2, 0, 0)),
     (&[&[2], &MOST], (2, u64::MAX, 0)),
     (&[&[3], &NUMBER_1], (3, 1, 0)),
     (&[&[3], &MOST], (3, u64::MAX, 0)),
     (&[&[4], &NUMBER_1], (4, 1, 0)),
     (&[&[4], &MOST], (4, u64::MAX, 0)),
-    (&[&PREPARE, &TID, &[0; 64], &[0, 1], &OBJECT], (5, 1, 1)),
+    (
+        &[&PREPARE, &TID, &[2], &[0; 16], &[0, 1], &OBJECT],
+        (5, 1, 1),
+    ),
     (&[&VOTE, &[1]], (6, 1, 1)),
     (&[&VOTE, &[2]], (6, 1, 2)),
     (&[&VOTE, &[0, 1], &OBJECT, &[1], &MOST], (6, 1, u64::MAX)),
@@ -76,7 +82,7 @@ static REFUSED: [&[&[u8]]; 16] = [
     &[],
     &[&[0], &[0; 8]],
     &[&[9], &[0; 8]],
-    &[&[1, 0, 0, 0, 0, 0, 0, 0, 7], &HELL],
+    &[&[1, 0, 0, 0, 0, 0, 0, 0, 7], &SECOND_HELL],
     &[&[2], &[0; 7]],
     &[&[3], &[0; 9]],
     &[&VOTE],
@@ -88,10 +94,13 @@ static REFUSED: [&[&[u8]]; 16] = [
     &[&VOTE, &[0, 1, 0]],
     &[&[8], &[0; 9]],
     &THIRD,
-    &[&PREPARE, &TID, &[0; 64], &[0, 2], &OBJECT, &OBJECT],
+    &[&PREPARE, &TID, &[2], &[0; 16], &[0, 2], &OBJECT, &OBJECT],
 ];
 
-const THIRD: [&[u8]; 7] = [&PREPARE, &TID, &[0; 23], &[1], &[0; 40], &[0, 1], &OBJECT];
+/// A snapshot of three sites, and one of sixteen.
+const THIRD: [&[u8]; 7] = [&PREPARE, &TID, &[3], &[0; 23], &[1], &[0, 1], &OBJECT];
+
+const WIDE: [&[u8]; 6] = [&PREPARE, &TID, &[16], &[0; 128], &[0, 1], &OBJECT];
 
 #[test]
 fn what_is_no_spelling_is_refused(rt: HostRuntime) -> Result<(), Fail> {
@@ -100,8 +109,9 @@ fn what_is_no_spelling_is_refused(rt: HostRuntime) -> Result<(), Fail> {
         assert!(rt; decode(alloc, &joined(alloc, parts)?, 2)?.is_none());
     }
     assert!(rt; decode(alloc, &joined(alloc, &THIRD)?, 3)?.is_some());
+    assert!(rt; decode(alloc, &joined(alloc, &WIDE)?, 16)?.is_some());
     for &(count, objects, is_taken) in &LISTS {
-        let bytes = with_objects(alloc, &[&PREPARE, &TID, &[0; 64]], count, objects)?;
+        let bytes = with_objects(alloc, &[&PREPARE, &TID, &[2], &[0; 16]], count, objects)?;
         assert!(rt; decode(alloc, &bytes, 2)?.is_some() == is_taken);
     }
     Ok(())

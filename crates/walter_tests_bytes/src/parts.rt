@@ -6,12 +6,19 @@ pub const NUMBER_1: [u8; 8] = [0, 0, 0, 0, 0, 0, 0, 1];
 
 pub const MOST: [u8; 8] = [255; 8];
 
-/// The first transaction of site 0, which writes `hello` to the object 1, 5: all but its last byte, which is `o`.
+/// The first transaction of site 0, which writes `hello` to the object 1, 5, in the first format: all but its last
+/// byte, which is `o`.
 pub const HELL: [u8; 108] = [
     0, 0, 0, 0, 1, 0, 0, 0, 0, 0, 0, 0, 1, 0, 0, 0, 0, 0, 0, 0, 0, 0, 0, 0, 0, 0, 0, 0, 0, 0, 0, 0,
     0, 0, 0, 0, 0, 0, 0, 0, 0, 0, 0, 0, 0, 0, 0, 0, 0, 0, 0, 0, 0, 0, 0, 0, 0, 0, 0, 0, 0, 0, 0, 0,
     0, 0, 0, 0, 0, 0, 0, 0, 0, 0, 0, 0, 0, 0, 0, 0, 0, 0, 0, 0, 0, 0, 1, 1, 0, 0, 0, 1, 0, 0, 0, 0,
     0, 0, 0, 5, 0, 0, 0, 5, 104, 101, 108, 108,
+];
+
+/// The same in the second format, where the snapshot has a number for each of two sites.
+pub const SECOND_HELL: [u8; 61] = [
+    0, 0, 0, 0, 1, 0, 0, 0, 0, 0, 0, 0, 1, 0, 0, 0, 0, 0, 0, 0, 0, 2, 0, 0, 0, 0, 0, 0, 0, 0, 0, 0,
+    0, 0, 0, 0, 0, 0, 0, 1, 1, 0, 0, 0, 1, 0, 0, 0, 0, 0, 0, 0, 5, 0, 0, 0, 5, 104, 101, 108, 108,
 ];
 
 /// The first transaction of site 1.

@@ -1,8 +1,10 @@
 //! Tests of records as bytes.
-use crate::parts::{BEFORE, HELL, LISTS, MOST, NUMBER_1, OBJECT, TID, joined, with_objects};
+use crate::parts::{
+    BEFORE, HELL, LISTS, MOST, NUMBER_1, OBJECT, SECOND_HELL, TID, joined, with_objects,
+};
 use std::alloc::Global;
 use std::test::Fail;
-use walter_base::Record;
+use walter_base::{Format, Record};
 use walter_record::{decode, encode};
 
 /// The slow commit 2 of site 1 wants objects: what stands before the transaction and the objects.
@@ -23,15 +25,17 @@ fn said(journaled: &Record) -> (u8, u8, u64, u64) {
         Record::SlowBegin(slow, tx) => (7, 0, *slow, tx.tid.number),
         Record::SlowEnd(slow) => (8, 0, *slow, 0),
         Record::Marks(durable, visible) => (9, 0, *durable, *visible),
+        Record::Format => (10, 0, 0, 0),
     }
 }
 
-/// What the record that the bytes spell says; the bytes are what is written of it.
-fn read(alloc: Global, bytes: &[u8]) -> Result<(u8, u8, u64, u64), Fail> {
-    let Some(journaled) = decode(alloc, bytes, 2)? else {
+/// What the record that the bytes spell in the format says; the bytes are what is written of it.
+#[tactic(auto, using(crate::proofs::Formats::formats))]
+fn read(alloc: Global, bytes: &[u8], format: Format) -> Result<(u8, u8, u64, u64), Fail> {
+    let Some(journaled) = decode(alloc, bytes, 2, format)? else {
         return Err("the bytes spell a record".into());
     };
-    let written = encode(alloc, &journaled)?;
+    let written = encode(alloc, &journaled, format)?;
     if written.as_slice() == bytes {
         Ok(said(&journaled))
     } else {
@@ -39,8 +43,8 @@ fn read(alloc: Global, bytes: &[u8]) -> Result<(u8, u8, u64, u64), Fail> {
     }
 }
 
-/// Each row: the bytes of a record, in parts, and what it says.
-pub(crate) static SPELLINGS: [(&[&[u8]], (u8, u8, u64, u64)); 14] = [
+/// Each row: the bytes of a record in the first format, in parts, and what it says.
+pub(crate) static SPELLINGS: [(&[&[u8]], (u8, u8, u64, u64)); 15] = [
     (&[&[1], &[0; 4]], (1, 0, 0, 0)),
     (&[&[1], &[255; 4]], (1, 0, 0xFFFF_FFFF, 0)),
     (&[&[2], &NUMBER_1, &HELL, b"o"], (2, 0, 1, 1)),
@@ -58,27 +62,44 @@ pub(crate) static SPELLINGS: [(&[&[u8]], (u8, u8, u64, u64)); 14] = [
     (&[&[8], &MOST], (8, 0, u64::MAX, 0)),
     (&[&[9], &[0; 16]], (9, 0, 0, 0)),
     (&[&[9, 0, 0, 0, 0, 0, 0, 0, 2], &NUMBER_1], (9, 0, 2, 1)),
+    (&[&[10, 2]], (10, 0, 0, 0)),
+];
+
+/// The same in the second.
+pub(crate) static SECOND_SPELLINGS: [(&[&[u8]], (u8, u8, u64, u64)); 5] = [
+    (&[&[1], &[0; 4]], (1, 0, 0, 0)),
+    (&[&[2], &NUMBER_1, &SECOND_HELL, b"o"], (2, 0, 1, 1)),
+    (&[&[3, 1], &NUMBER_1, &SECOND_HELL, b"o"], (3, 1, 1, 1)),
+    (&[&[7], &NUMBER_1, &SECOND_HELL, b"o"], (7, 0, 1, 1)),
+    (&[&[10, 2]], (10, 0, 0, 0)),
 ];
 
 #[test]
 fn records_are_read_and_written_again(rt: HostRuntime) -> Result<(), Fail> {
     for &(parts, wanted) in &SPELLINGS {
         let bytes = joined(rt.alloc(), parts)?;
-        assert!(rt; read(rt.alloc(), &bytes)? == wanted);
+        assert!(rt; read(rt.alloc(), &bytes, Format::First)? == wanted);
+    }
+    for &(parts, wanted) in &SECOND_SPELLINGS {
+        let bytes = joined(rt.alloc(), parts)?;
+        assert!(rt; read(rt.alloc(), &bytes, Format::Second)? == wanted);
     }
     Ok(())
 }
 
-/// Each row: bytes that spell no record, in parts. In the last two the first object stands twice, and the second before
-/// it.
-static REFUSED: [&[&[u8]]; 16] = [
+/// Each row: bytes that spell no record in the first format, in parts. In the last two the first object stands twice,
+/// and the second before it.
+static REFUSED: [&[&[u8]]; 19] = [
     &[],
     &[&[0], &[0; 16]],
+    &[&[10]],
+    &[&[10, 1]],
     &[&[10], &[0; 16]],
     &[&[1], &[0; 3]],
     &[&[1], &[0; 5]],
     &[&[2], &NUMBER_1, &HELL],
     &[&[2], &NUMBER_1, &HELL, b"o", &[0]],
+    &[&[2], &NUMBER_1, &SECOND_HELL, b"o"],
     &[&[3], &NUMBER_1, &HELL, b"o"],
     &[&[4], &[0; 8]],
     &[&[4], &[0; 10]],
@@ -94,11 +115,13 @@ static REFUSED: [&[&[u8]]; 16] = [
 fn what_is_no_spelling_is_refused(rt: HostRuntime) -> Result<(), Fail> {
     let alloc = rt.alloc();
     for &parts in &REFUSED {
-        assert!(rt; decode(alloc, &joined(alloc, parts)?, 2)?.is_none());
+        assert!(rt; decode(alloc, &joined(alloc, parts)?, 2, Format::First)?.is_none());
     }
+    let first = joined(alloc, &[&[2], &NUMBER_1, &HELL, b"o"])?;
+    assert!(rt; decode(alloc, &first, 2, Format::Second)?.is_none());
     for &(count, objects, is_taken) in &LISTS {
         let bytes = with_objects(alloc, &[&PREPARED, &TID], count, objects)?;
-        assert!(rt; decode(alloc, &bytes, 2)?.is_some() == is_taken);
+        assert!(rt; decode(alloc, &bytes, 2, Format::First)?.is_some() == is_taken);
     }
     Ok(())
 }

@@ -2,7 +2,7 @@
 use crate::parts::joined;
 use std::alloc::{AllocError, Global};
 use std::test::Fail;
-use walter_base::{ObjId, SiteId, Tx, Update};
+use walter_base::{Format, ObjId, SiteId, Tx, Update};
 use walter_txcode::{decode, encode};
 
 /// A write of `hello` to the object 1, 5.
@@ -15,12 +15,17 @@ const ADD: [u8; 21] = [
     2, 0, 0, 0, 1, 0, 0, 0, 0, 0, 0, 0, 5, 0, 0, 0, 0, 0, 0, 0, 9,
 ];
 
-/// The name of the first transaction of site 0, and its slow number and its snapshot, which are 0.
-const FIRST: [&[u8]; 2] = [&[0, 0, 0, 0, 1, 0, 0, 0, 0, 0, 0, 0, 1], &[0; 72]];
+/// The name of the first transaction of site 0, and its slow number and its snapshot, which are 0, in the first format;
+/// and the same in the second.
+const FIRST: [&[u8]; 2] = [&NAME, &[0; 72]];
 
-/// What stands before the updates of the first transaction of site 0, and their count.
-fn head(alloc: Global, count: u16) -> Result<Vec<u8>, AllocError> {
-    let mut bytes = joined(alloc, &FIRST)?;
+const SECOND: [&[u8]; 4] = [&NAME, &[0; 8], &[1], &[0; 8]];
+
+const NAME: [u8; 13] = [0, 0, 0, 0, 1, 0, 0, 0, 0, 0, 0, 0, 1];
+
+/// What stands before the updates of a transaction, and their count.
+fn head(alloc: Global, front: &[&[u8]], count: u16) -> Result<Vec<u8>, AllocError> {
+    let mut bytes = joined(alloc, front)?;
     bytes.extend_from_slice(&count.to_be_bytes())?;
     Ok(bytes)
 }
@@ -66,26 +71,35 @@ fn is_told(tx: &Tx) -> bool {
 }
 
 /// The bytes of a transaction with these updates.
-fn with_updates(alloc: Global) -> Result<Vec<u8>, AllocError> {
-    let mut bytes = head(alloc, 3)?;
+fn with_updates(alloc: Global, front: &[&[u8]]) -> Result<Vec<u8>, AllocError> {
+    let mut bytes = head(alloc, front, 3)?;
     bytes.extend_from_slice(&joined(alloc, &UPDATES)?)?;
     Ok(bytes)
 }
 
+/// Whether the bytes are that transaction in the format, and are what is written of it.
+#[tactic(auto, using(crate::proofs::Formats::most_any))]
+fn is_read_and_written(alloc: Global, bytes: &[u8], format: Format) -> Result<bool, Fail> {
+    match decode(alloc, bytes, 1, format)? {
+        Some(tx) => Ok(is_told(&tx) && encode(alloc, &tx, format)?.as_slice() == bytes),
+        None => Ok(false),
+    }
+}
+
 #[test]
 fn a_spelling_is_read_and_written_again(rt: HostRuntime) -> Result<(), Fail> {
-    let bytes = with_updates(rt.alloc())?;
-    let Some(tx) = decode(rt.alloc(), &bytes, 1)? else {
-        return Err("the bytes are a transaction".into());
-    };
-    assert!(rt; is_told(&tx));
-    assert!(rt; encode(rt.alloc(), &tx)?.as_slice() == bytes.as_slice());
+    let first = with_updates(rt.alloc(), &FIRST)?;
+    assert!(rt; is_read_and_written(rt.alloc(), &first, Format::First)?);
+    assert!(rt; !is_read_and_written(rt.alloc(), &first, Format::Second)?);
+    let second = with_updates(rt.alloc(), &SECOND)?;
+    assert!(rt; is_read_and_written(rt.alloc(), &second, Format::Second)?);
+    assert!(rt; !is_read_and_written(rt.alloc(), &second, Format::First)?);
     Ok(())
 }
 
 /// The bytes of a transaction that writes `hello`, with one of them replaced and a 0 behind them, cut off at a length.
 fn replaced(alloc: Global, place: usize, byte: u8, length: usize) -> Result<Vec<u8>, AllocError> {
-    let mut bytes = head(alloc, 1)?;
+    let mut bytes = head(alloc, &FIRST, 1)?;
     bytes.extend_from_slice(&HELLO)?;
     bytes.extend_from_slice(&[0])?;
     if let Some(old) = bytes.get_mut(place) {
@@ -98,13 +112,13 @@ fn replaced(alloc: Global, place: usize, byte: u8, length: usize) -> Result<Vec<
 /// The bytes of so many additions; or of so many writes of 4,096 bytes and one of a length.
 fn large(alloc: Global, additions: u16, writes: u16, length: u16) -> Result<Vec<u8>, AllocError> {
     if additions > 0 {
-        let mut bytes = head(alloc, additions)?;
+        let mut bytes = head(alloc, &FIRST, additions)?;
         for _ in 0..additions {
             bytes.extend_from_slice(&ADD)?;
         }
         return Ok(bytes);
     }
-    let mut bytes = head(alloc, writes.saturating_add(1))?;
+    let mut bytes = head(alloc, &FIRST, writes.saturating_add(1))?;
     for _ in 0..writes {
         push_write(&mut bytes, 4_096)?;
     }
@@ -115,7 +129,7 @@ fn large(alloc: Global, additions: u16, writes: u16, length: u16) -> Result<Vec<
 /// Spellings of transactions: with an update of each kind, with a write alone, and with many additions.
 pub(crate) fn spellings(alloc: Global) -> Result<Vec<Vec<u8>>, Fail> {
     Ok(vec![in alloc;
-        with_updates(alloc)?,
+        with_updates(alloc, &FIRST)?,
         replaced(alloc, 0, 0, 109)?,
         large(alloc, 20, 0, 0)?,
     ]?)
@@ -149,11 +163,12 @@ static LARGE: [(u16, u16, u16, bool); 6] = [
 fn what_is_no_spelling_is_refused(rt: HostRuntime) -> Result<(), Fail> {
     for &(place, byte, length, sites, is_taken) in &REPLACED {
         let bytes = replaced(rt.alloc(), place, byte, length)?;
-        assert!(rt; decode(rt.alloc(), &bytes, sites)?.is_some() == is_taken);
+        assert!(rt; sites <= 8);
+        assert!(rt; decode(rt.alloc(), &bytes, sites, Format::First)?.is_some() == is_taken);
     }
     for &(additions, writes, length, is_taken) in &LARGE {
         let bytes = large(rt.alloc(), additions, writes, length)?;
-        assert!(rt; decode(rt.alloc(), &bytes, 1)?.is_some() == is_taken);
+        assert!(rt; decode(rt.alloc(), &bytes, 1, Format::First)?.is_some() == is_taken);
     }
     Ok(())
 }

@@ -9,7 +9,7 @@ use walter_durable::{Durable, PreferredSites};
 
 /// How many sites there are, how many may be lost, where two own commits of site 0 are preferred, and what peers have
 /// acknowledged; and how many of the two are durable.
-static ROWS: [(u8, u8, [u8; 2], &[(u8, u64)], u64); 11] = [
+static ROWS: [(u8, u8, [u8; 2], &[(u8, u64)], u64); 13] = [
     (3, 0, [0, 0], &[], 2),
     (3, 0, [0, 1], &[(2, 2)], 1),
     (3, 0, [1, 0], &[(2, 2)], 0),
@@ -21,6 +21,8 @@ static ROWS: [(u8, u8, [u8; 2], &[(u8, u64)], u64); 11] = [
     (5, 2, [0, 0], &[(3, 2)], 0),
     (5, 2, [0, 0], &[(3, 2), (4, 1)], 1),
     (5, 2, [4, 1], &[(3, 2), (4, 2)], 1),
+    (16, 1, [15, 0], &[(15, 1)], 1),
+    (16, 2, [15, 15], &[(13, 2), (14, 2)], 0),
 ];
 
 /// Commits one more own commit, of objects that are preferred at the site.
@@ -53,7 +55,7 @@ fn mark(alloc: Global, sites: u8, tolerated: u8, preferred: [u8; 2], acks: &[(u8
 #[test]
 fn commits_are_durable_where_enough_hold_them(rt: HostRuntime) -> Result<(), Fail> {
     for &(sites, tolerated, preferred, acks, wanted) in &ROWS {
-        assert!(rt; tolerated < sites && sites <= 8);
+        assert!(rt; tolerated < sites && sites <= 16);
         let found = mark(rt.alloc(), sites, tolerated, preferred, acks)?;
         assert!(rt; found == wanted);
     }

@@ -31,18 +31,22 @@ enum Kept {
     SlowBegin(u64),
     SlowEnd(u64),
     Marks(u64, u64),
+    Format,
 }
 
 /// What is replayed, and whether it can follow those before it.
-static RECORDS: [(Kept, bool); 27] = [
+static RECORDS: [(Kept, bool); 31] = [
     (Kept::Marks(0, 0), false),
     (Kept::Boot(2), false),
+    (Kept::Format, false),
     (Kept::Boot(1), true),
     (Kept::Boot(1), false),
     (Kept::Own(2, 0, 1), false),
     (Kept::Own(1, 0, 1), true),
     (Kept::Own(1, 0, 1), false),
     (Kept::Seen(1), false),
+    (Kept::Format, true),
+    (Kept::Format, false),
     (Kept::Got(1), true),
     (Kept::Got(1), false),
     (Kept::Seen(2), false),
@@ -57,6 +61,7 @@ static RECORDS: [(Kept, bool); 27] = [
     (Kept::Prepared(2), false),
     (Kept::Own(2, 2, 1), false),
     (Kept::Boot(2), true),
+    (Kept::Format, false),
     (Kept::SlowEnd(1), false),
     (Kept::SlowBegin(2), true),
     (Kept::Own(2, 2, 1), true),
@@ -119,6 +124,7 @@ fn record_of(alloc: Global, kept: Kept) -> Mem<Record>
         Kept::SlowBegin(slow) => Ok(Record::SlowBegin(slow, tx_of(alloc, HERE, slow, 1)?)),
         Kept::SlowEnd(slow) => Ok(Record::SlowEnd(slow)),
         Kept::Marks(durable, visible) => Ok(Record::Marks(durable, visible)),
+        Kept::Format => Ok(Record::Format),
     }
 }
 

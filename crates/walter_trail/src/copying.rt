@@ -44,6 +44,7 @@ fn copy_input(input: &Input) -> Mem<Input>
         }),
         Input::Advance { from } => Ok(Input::Advance { from: *from }),
         Input::Tick => Ok(Input::Tick),
+        Input::Upgrade => Ok(Input::Upgrade),
     }
 }
 

@@ -7,7 +7,7 @@ use Rattle.walter_link.specs.Choices.{copies}
 use Rattle.walter_rules.specs.declared.entry.Entry.{Entry}
 use Rattle.walter_rules.specs.declared.event.Event.{Event}
 use Rattle.walter_rules.specs.declared.event.Event.TheVariants.{Given, Stop, Restart}
-use Rattle.walter_rules.specs.declared.event.Input.TheVariants.{Call, Deliver, Advance, Tick}
+use Rattle.walter_rules.specs.declared.event.Input.TheVariants.{Call, Deliver, Advance, Tick, Upgrade}
 use Rattle.walter_rules.specs.Deliveries.{IsLeastEnabled}
 use Rattle.walter_rules.specs.Standing.{Standing}
 use Rattle.walter_rules.specs.Trails.{standing}
@@ -36,6 +36,7 @@ MayCome catalog i S (Given (Call client call)) = Unit {0}
 MayCome catalog i S (Given (Deliver from number packet)) = S.up ≡ true
 MayCome catalog i S (Given (Advance from)) = (S.up ≡ true) × IsLeastEnabled catalog i S.knows (Some from)
 MayCome catalog i S (Given Tick) = (S.up ≡ true) × IsLeastEnabled catalog i S.knows None
+MayCome catalog i S (Given Upgrade) = ⊥
 MayCome catalog i S Stop = ⊥
 MayCome catalog i S Restart = S.up ≡ false
 

@@ -3,6 +3,7 @@ use Rattle.std.proofs.Common.{◌≡◌, ℕ, Bool, true, false, List, [], Optio
 use Rattle.std.specs.Prelude.{◌≢◌, IfSome, IsSome, All, is_some}
 use Rattle.std.proofs.lemmas.List.Elements.{All-nil}
 use Rattle.walter_base.specs.declared.catalog.Catalog.{Catalog}
+use Rattle.walter_base.specs.declared.format.Format.TheVariants.{First}
 use Rattle.walter_base.specs.declared.message.Record.{Record}
 use Rattle.walter_base.specs.declared.names.SiteId.{SiteId}
 use Rattle.walter_machine.specs.declared.machine.Machine.{Machine}
@@ -68,7 +69,7 @@ pub none_spelled : (sites : ℕ) (came : Came) → came.sends ≡ [] → AreSpel
 none_spelled sites came none = subst (All (λ s. HasPacketSpelling sites s.1)) (sym none) (All-nil (λ s. HasPacketSpelling sites s.1))
 
 module _ (catalog : Catalog) (i : SiteId) (site : Option Tables) (S : Standing) (event : Event) (ready : Ready) (fate : Fate)
-    (came : Came) (is : IsReadyFor catalog i site S event ready) where
+    (came : Came) (is : IsReadyFor First catalog i site S event ready) where
   -- its record is stable, or it has none
   pub comes_stable : breaks fate (rec_in ready) ≡ false → came ≡ came_in ready → came ≡ comes_to catalog i S event None fate
   comes_stable whole comes =
@@ -122,7 +123,7 @@ at_new old new P same p =
 
 -- so it is ready, and comes
 abbrev IsReadyAt : Machine → Standing → Event → Ready → Type 0
-IsReadyAt m S event ready = IsReadyFor (catalog_in m) (site_in m) (tables_in m) S event ready
+IsReadyAt m S event ready = IsReadyFor First (catalog_in m) (site_in m) (tables_in m) S event ready
 
 abbrev Comes : Machine → Ready → Event → Fate → Came → Machine → Type 0
 Comes m ready event fate came new = (S : Standing) → HasStanding m S → IsCounted m S (rec_in ready)
@@ -131,7 +132,7 @@ Comes m ready event fate came new = (S : Standing) → HasStanding m S → IsCou
 pub given : (seat : Seat) (n new : Machine) (event : Event) (keeps : Bool) (fate : Fate) (ready : Ready) (came : Came)
     → IsSeat (catalog_in seat.machine) (site_in seat.machine) seat → is_up seat.machine ≡ true
     → IsSameSite seat.machine n → HasStanding n (standing_of seat)
-    → IsReadyFor (catalog_in seat.machine) (site_in seat.machine) (tables_in n) (standing_of seat) event ready
+    → IsReadyFor First (catalog_in seat.machine) (site_in seat.machine) (tables_in n) (standing_of seat) event ready
     → Comes n ready event fate came new
     → HasCome (catalog_in seat.machine) (site_in seat.machine) (standing_of seat) event (found_by keeps (standing_of seat)) fate
     came new
@@ -142,7 +143,7 @@ given seat n new event keeps fate ready came seat_is raised same stands is comes
     (sym (found_up keeps S up))
     (at_old seat.machine n (λ (c : Catalog). λ (i : SiteId). HasCome c i S event None fate came new) same
     (comes S stands (counted n S (rec_in ready) stands up)
-    (at_new seat.machine n (λ (c : Catalog). λ (i : SiteId). IsReadyFor c i (tables_in n) S event ready) same is)))
+    (at_new seat.machine n (λ (c : Catalog). λ (i : SiteId). IsReadyFor First c i (tables_in n) S event ready) same is)))
 
 -- ---- where it is down, and isn't to come up
 
@@ -159,7 +160,7 @@ breaks_none Broken = refl
 pub declined : (seat : Seat) (event : Event) (keeps : Bool) (fate : Fate) (came : Came)
     → CanTake (catalog_in seat.machine) (site_in seat.machine) seat event keeps → is_up seat.machine ≡ false
     → event ≢ Restart → came ≡ only came.outcome
-    → ((S : Standing) → S.up ≡ false → came.outcome ≡ (rule (catalog_in seat.machine) (site_in seat.machine) S event).outcome)
+    → ((S : Standing) → S.up ≡ false → came.outcome ≡ (rule First (catalog_in seat.machine) (site_in seat.machine) S event).outcome)
     → ((S : Standing) → HasStanding seat.machine S
     → HasStanding seat.machine (stands_after (catalog_in seat.machine) (site_in seat.machine) S event came))
     → HasCome (catalog_in seat.machine) (site_in seat.machine) (standing_of seat) event (found_by keeps (standing_of seat)) fate
@@ -169,13 +170,13 @@ declined seat event keeps fate came can fallen stays is ruled stands =
     let c : Catalog = catalog_in seat.machine in
     let i : SiteId = site_in seat.machine in
     let down : S.up ≡ false = up_is S seat.machine.site can.seat_is.stands.state ∙ fallen in
-    let alone = (rests c i S event down stays).alone in
+    let alone = (rests First c i S event down stays).alone in
     subst (λ (f : Option Record). HasCome c i S event f fate came seat.machine)
     (sym (finds_nothing event keeps S can.finds stays)) (record {
       catalog_is = refl;
       site = refl;
       came_is = is ∙ (ap only (ruled S down)
-          ∙ (sym (stable_by fate event (expects (rule c i S event).outcome) (breaks_none fate))
+          ∙ (sym (stable_by fate event (expects (rule First c i S event).outcome) (breaks_none fate))
           ∙ ap (came_by fate event None) (sym alone)));
       stands = stands S can.seat_is.stands;
       spelled = none_spelled c.sites came (ap (λ (x : Came). x.sends) is);
@@ -190,7 +191,7 @@ risen catalog i S found kept fate came m same has = record {
   catalog_is = has.catalog_is;
   site = has.site;
   came_is = (λ j. record (has.came_is j) { kept = same j })
-      ∙ kept_too fate Restart found (rule catalog i (settled catalog i found S) Restart);
+      ∙ kept_too fate Restart found (rule First catalog i (settled catalog i found S) Restart);
   stands = has.stands;
   spelled = has.spelled;
 }
@@ -241,7 +242,7 @@ pub raised : (seat : Seat) (m n new : Machine) (keeps : Bool) (fate : Fate) (tol
     (settled (catalog_in seat.machine) (site_in seat.machine) (found_by keeps (standing_of seat)) (standing_of seat)).records told
     → IsSameSite seat.machine m → IsSameSite m n → tables_in n ≡ None → Settles (standing_of seat) told.count kept n
     → ((S : Standing) → S.up ≡ false → Stands told.tables S.knows
-    → IsReadyFor (catalog_of told.tables) (site_of told.tables) None S Restart ready)
+    → IsReadyFor First (catalog_of told.tables) (site_of told.tables) None S Restart ready)
     → Comes n ready Restart fate came new
     → HasCome (catalog_in seat.machine) (site_in seat.machine) (standing_of seat) Restart
     (found_by keeps (standing_of seat)) fate (record came { kept = kept }) new
@@ -257,11 +258,11 @@ raised seat m n new keeps fate told ready kept came down is tells same then none
     subst (λ (f : Option Record). HasStanding n (settled c i f S)) kept_is
     (at_old seat.machine m (λ (x : Catalog). λ (j : SiteId). HasStanding n (settled x j kept S)) same
     (at_old m n (λ (x : Catalog). λ (j : SiteId). HasStanding n (settled x j kept S)) then settles.stands)) in
-    let made : IsReadyFor (catalog_of told.tables) (site_of told.tables) None T Restart ready =
+    let made : IsReadyFor First (catalog_of told.tables) (site_of told.tables) None T Restart ready =
     readies T (still_down c i S found rests)
     (subst (λ (K : Knowledge). Stands told.tables K) (sym (found_knows c i S rests is.stands.told found)) tells.stands) in
     let there : IsReadyAt n T Restart ready =
-    at_raised seat m n told T.records (λ (x : Catalog). λ (j : SiteId). λ (t : Option Tables). IsReadyFor x j t T Restart ready)
+    at_raised seat m n told T.records (λ (x : Catalog). λ (j : SiteId). λ (t : Option Tables). IsReadyFor First x j t T Restart ready)
     tells same then none made in
     risen c i S found kept fate came new kept_is
     (at_old seat.machine m (λ (x : Catalog). λ (j : SiteId). HasCome x j T Restart None fate came new) same

@@ -4,6 +4,8 @@ use Rattle.std.specs.Prelude.{IfSome, sum_by}
 use Rattle.std.proofs.lemmas.Bool.{cases_eq, cases_lt}
 use Rattle.std.proofs.lemmas.List.{get_or_past, reverse-append, take_all, take-append-le}
 use Rattle.walter_base.specs.declared.catalog.Catalog.{Catalog}
+use Rattle.walter_base.specs.declared.format.Format.{Format}
+use Rattle.walter_base.specs.declared.format.Format.TheVariants.{First}
 use Rattle.walter_base.specs.declared.message.Record.{Record}
 use Rattle.walter_base.specs.declared.message.Record.TheVariants.{Boot}
 use Rattle.walter_base.specs.declared.names.SiteId.{SiteId}
@@ -18,7 +20,7 @@ use Rattle.walter_rules.specs.declared.event.Event.TheVariants.{Given, Restart}
 use Rattle.walter_rules.specs.declared.event.Input.TheVariants.{Deliver}
 use Rattle.walter_rules.specs.Calls.{Expected}
 use Rattle.walter_rules.specs.Knowledge.{site_at}
-use Rattle.walter_rules.specs.Layouts.{need_of, FitsIn, one_area}
+use Rattle.walter_rules.specs.Layouts.{FitsIn, need_of, need_there, one_area, placed}
 use Rattle.walter_rules.specs.Merges.{Stamped, sent_to, put_out_to, trail_of, IsLinked, AreLinked}
 use Rattle.walter_rules.specs.Rule.{rule}
 use Rattle.walter_rules.specs.Standing.{Standing, settled}
@@ -38,35 +40,35 @@ use Rattle.walter_world.specs.Worlds.{AreOpenings, AreRightWithPlace, KeepPromis
 -- ---- one entry
 
 -- how many bytes of a journal are enough, with a record more
-abbrev need_any : Option Record → ℕ
-need_any None = 0
-need_any (Some rec) = need_of rec
+abbrev need_any : Format → Option Record → ℕ
+need_any format None = 0
+need_any format (Some rec) = need_of format rec
 
 abbrev place_for : Standing → Option Record → ℕ
-place_for S wrote = 9 + sum_by need_of S.records + need_any wrote
+place_for S wrote = 9 + sum_by need_there (placed First S.records) + need_any S.knows.format wrote
 
 fits_any : (capacity : ℕ) (S : Standing) (wrote : Option Record) → place_for S wrote ≤ capacity
-    → IfSome wrote (FitsIn (one_area capacity) S)
+    → IfSome wrote (FitsIn (one_area capacity First) S)
 fits_any capacity S None enough = tt
 fits_any capacity S (Some rec) enough = omega (arith, enough)
 
 module _ (catalog : Catalog) (capacity : ℕ) (i : SiteId) (T : Standing) (event : Event) (kept : Option Record)
-    (enough : place_for T (rule catalog i T event).wrote ≤ capacity) where
+    (enough : place_for T (rule First catalog i T event).wrote ≤ capacity) where
   abbrev x : Expected
-  x = rule catalog i T event
+  x = rule First catalog i T event
 
-  comes_fine : Comes catalog (one_area capacity) i T event (came_by Fine event kept x)
+  comes_fine : Comes catalog (one_area capacity First) i T event (came_by Fine event kept x)
   comes_fine = ruled (fits_any capacity T x.wrote enough)
       (record { outcome = refl; wrote = refl; flight = refl; sends = put_all T.carried x.sends })
 
   comes_broken : (wrote : Option Record) → x.wrote ≡ wrote
-      → Comes catalog (one_area capacity) i T event (came_broken event kept x wrote)
+      → Comes catalog (one_area capacity First) i T event (came_broken event kept x wrote)
   comes_broken None is = comes_fine
   comes_broken (Some rec) is =
-      met_fault rec is (subst (λ (w : Option Record). IfSome w (FitsIn (one_area capacity) T)) is (fits_any capacity T x.wrote enough))
+      met_fault rec is (subst (λ (w : Option Record). IfSome w (FitsIn (one_area capacity First) T)) is (fits_any capacity T x.wrote enough))
       (record { outcome_is = refl; wrote = refl; flight_is = refl; sends = refl; dropped = refl })
 
-  comes_by : (fate : Fate) → Comes catalog (one_area capacity) i T event (came_by fate event kept x)
+  comes_by : (fate : Fate) → Comes catalog (one_area capacity First) i T event (came_by fate event kept x)
   comes_by Fine = comes_fine
   comes_by Broken = comes_broken x.wrote refl
 
@@ -123,26 +125,26 @@ module _ (catalog : Catalog) (trails : List (List Entry)) (i : SiteId) (trail : 
 
   -- where a journal has place for it
   abbrev pub enough_for : ℕ
-  enough_for = place_for T (rule catalog i T event).wrote
+  enough_for = place_for T (rule First catalog i T event).wrote
 
-  pub right_entry : (capacity : ℕ) → enough_for ≤ capacity → IsRightEntry catalog (one_area capacity) i (reverse trail) e
+  pub right_entry : (capacity : ℕ) → enough_for ≤ capacity → IsRightEntry catalog (one_area capacity First) i (reverse trail) e
   right_entry capacity enough =
-      let same : e.came.kept ≡ kept = came_kept fate event kept (rule catalog i T event) in
+      let same : e.came.kept ≡ kept = came_kept fate event kept (rule First catalog i T event) in
       record {
         stamp = next_stamp trails i what event put (clock (reverse trail)) brings;
         kept = subst (λ (k : Option Record). IfSome k (IsFound S event)) (sym same)
             (found_by_event trails i what event put S brings);
-        comes = subst (λ (k : Option Record). Comes catalog (one_area capacity) i (settled catalog i k S) event e.came) (sym same)
+        comes = subst (λ (k : Option Record). Comes catalog (one_area capacity First) i (settled catalog i k S) event e.came) (sym same)
             (comes_by catalog capacity i T event kept enough fate);
       }
 
-  pub right_trail : (capacity : ℕ) → enough_for ≤ capacity → IsRightTrail catalog (one_area capacity) i trail
-      → IsRightTrail catalog (one_area capacity) i (trail ++ e ∷ [])
+  pub right_trail : (capacity : ℕ) → enough_for ≤ capacity → IsRightTrail catalog (one_area capacity First) i trail
+      → IsRightTrail catalog (one_area capacity First) i (trail ++ e ∷ [])
   right_trail capacity enough right = record {
     opening = right.opening;
     begins = slice_get-append_left trail (e ∷ []) right.opening 0 right.begins;
     opens = right.opens;
-    right = subst (λ (es : List Entry). AreRight catalog (one_area capacity) i es) (sym (reverse-append trail (e ∷ [])))
+    right = subst (λ (es : List Entry). AreRight catalog (one_area capacity First) i es) (sym (reverse-append trail (e ∷ [])))
         (right.right, right_entry capacity enough);
   }
 
@@ -268,12 +270,12 @@ module _ (catalog : Catalog) (old new : List (List Entry)) (w : WorldEvent) (hap
           right = λ i within. elim (cases_eq i.0 s.0) [
             | inl here ↦
                 let site : i ≡ s = same_site_by i s here in
-                subst (λ (k : SiteId). IsRightTrail catalog (one_area capacity) k (trail_of new k)) (sym site)
-                (subst (λ (t : List Entry). IsRightTrail catalog (one_area capacity) s t) (sym happened.here)
+                subst (λ (k : SiteId). IsRightTrail catalog (one_area capacity First) k (trail_of new k)) (sym site)
+                (subst (λ (t : List Entry). IsRightTrail catalog (one_area capacity First) s t) (sym happened.here)
                 (right_trail catalog old s (trail_of old s) w.what happened.event happened.put w.fate happened.brings capacity
                 (omega (arith, enough)) (are.right s below)))
             | inr there ↦
-                subst (λ (t : List Entry). IsRightTrail catalog (one_area capacity) i t)
+                subst (λ (t : List Entry). IsRightTrail catalog (one_area capacity First) i t)
                 (sym (happened.others i (λ same. there (ap (λ (k : SiteId). k.0) same)))) (are.right i within)
           ];
           linked = linked_more are.linked;
@@ -286,14 +288,14 @@ pub promises : (catalog : Catalog) (trails : List (List Entry)) → IsWhole cata
     → KeepPromises catalog trails
 promises catalog trails whole right =
     let capacity = right.enough in
-    let are : AreRightTrails catalog (λ k. one_area capacity) trails = right.right capacity (omega arith) in
+    let are : AreRightTrails catalog (λ k. one_area capacity First) trails = right.right capacity (omega arith) in
     record {
       right_trails = right;
-      legal_history = trails_legal catalog (λ k. one_area capacity) whole trails are;
-      commits_once = trails_once catalog (λ k. one_area capacity) whole trails are;
-      got_right = trails_got catalog (λ k. one_area capacity) whole trails are;
-      aborts_named = trails_named catalog (λ k. one_area capacity) whole trails are;
-      marks_true = trails_marks catalog (λ k. one_area capacity) whole trails are;
+      legal_history = trails_legal catalog (λ k. one_area capacity First) whole trails are;
+      commits_once = trails_once catalog (λ k. one_area capacity First) whole trails are;
+      got_right = trails_got catalog (λ k. one_area capacity First) whole trails are;
+      aborts_named = trails_named catalog (λ k. one_area capacity First) whole trails are;
+      marks_true = trails_marks catalog (λ k. one_area capacity First) whole trails are;
     }
 
 -- ---- from the openings on
@@ -302,8 +304,8 @@ module _ (catalog : Catalog) where
   abbrev first : SiteId → Entry
   first i = entry_of catalog i [] Restart 0 false Fine
 
-  opening_right : (capacity : ℕ) (i : SiteId) → 9 + need_of (Boot 1) ≤ capacity
-      → IsRightTrail catalog (one_area capacity) i (first i ∷ [])
+  opening_right : (capacity : ℕ) (i : SiteId) → 9 + need_of First (Boot 1) ≤ capacity
+      → IsRightTrail catalog (one_area capacity First) i (first i ∷ [])
   opening_right capacity i enough = record {
     opening = first i;
     begins = refl;
@@ -321,10 +323,10 @@ module _ (catalog : Catalog) where
 
   pub openings_right : (trails : List (List Entry)) → AreOpenings catalog trails → AreRightWithPlace catalog trails
   openings_right trails are = record {
-    enough = 9 + need_of (Boot 1);
+    enough = 9 + need_of First (Boot 1);
     right = λ capacity enough. record {
       one_each = are.one_each;
-      right = λ i below. subst (λ (t : List Entry). IsRightTrail catalog (one_area capacity) i t) (sym (are.opens i below))
+      right = λ i below. subst (λ (t : List Entry). IsRightTrail catalog (one_area capacity First) i t) (sym (are.opens i below))
           (opening_right capacity i enough);
       linked = λ i place e j number packet at is. elim (cases_lt i.0 catalog.sites) [
         | inl below ↦ absurd (none_delivered i place e j number packet

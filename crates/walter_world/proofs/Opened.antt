@@ -5,6 +5,7 @@ use Rattle.std.proofs.lemmas.List.{length-append, length-map}
 use Rattle.std.proofs.lemmas.List.Elements.{All-nil}
 use Rattle.std.proofs.lemmas.Option.{slice_get_cases}
 use Rattle.walter_base.specs.declared.catalog.Catalog.{Catalog}
+use Rattle.walter_base.specs.declared.format.Format.TheVariants.{First}
 use Rattle.walter_base.specs.declared.names.SiteId.{SiteId}
 use Rattle.walter_base.specs.Vectors.{most_sites}
 use Rattle.walter_linked.specs.Catalogs.{IsWhole}
@@ -39,8 +40,8 @@ none_yet catalog i seat stands trail = record {
     spelled = subst (λ (es : List Entry). All (λ (e : Entry). AreSpelled (catalog_in seat.machine).sites e.came) es)
         (sym trail) (All-nil (λ (e : Entry). AreSpelled (catalog_in seat.machine).sites e.came));
   };
-  layout = one_area 0;
-  right = subst (λ (es : List Entry). AreRight (catalog_in seat.machine) (one_area 0) (site_in seat.machine) (reverse es)) (sym trail) tt;
+  layout = one_area 0 First;
+  right = subst (λ (es : List Entry). AreRight (catalog_in seat.machine) (one_area 0 First) (site_in seat.machine) (reverse es)) (sym trail) tt;
   young = subst (λ (es : List Entry). clock (reverse es) < 4294967295) (sym trail) (omega arith);
   sized = tt;
   finds = tt;

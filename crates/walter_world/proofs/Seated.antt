@@ -6,6 +6,7 @@ use Rattle.std.proofs.lemmas.List.{length-map, length-set, get_or-set_same, get_
 use Rattle.std.proofs.lemmas.List.Elements.{All-push}
 use Rattle.std.proofs.lemmas.Option.{slice_get-map, slice_get-get_or, slice_get_past, unwrap_or-slice_get}
 use Rattle.walter_base.specs.declared.catalog.Catalog.{Catalog}
+use Rattle.walter_base.specs.declared.format.Format.TheVariants.{First}
 use Rattle.walter_base.specs.declared.message.Record.{Record}
 use Rattle.walter_base.specs.declared.names.SiteId.{SiteId}
 use Rattle.walter_machine.specs.declared.machine.Machine.{Machine}
@@ -42,7 +43,7 @@ seat_more catalog i old new e keep fate is has entries =
     let S : Standing = standing catalog i (reverse trail) in
     let kept : Option Record = found_by keep S in
     let kept_is : e.came.kept ≡ kept =
-    ap (λ (c : Came). c.kept) has.came_is ∙ came_kept fate e.event kept (rule catalog i (settled catalog i kept S) e.event) in
+    ap (λ (c : Came). c.kept) has.came_is ∙ came_kept fate e.event kept (rule First catalog i (settled catalog i kept S) e.event) in
     let stands : standing catalog i (reverse new.entries.items)
     ≡ stands_after catalog i (settled catalog i kept S) e.event e.came =
     ap (λ (t : List Entry). standing catalog i (reverse t)) entries

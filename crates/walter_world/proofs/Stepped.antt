@@ -4,6 +4,7 @@ use Rattle.std.specs.Prelude.{All, OnOk, OnErr}
 use Rattle.std.proofs.lemmas.List.{length-set}
 use Rattle.std.proofs.lemmas.Option.{slice_get-get_or, slice_get_cases, slice_get_within}
 use Rattle.walter_base.specs.declared.catalog.Catalog.{Catalog}
+use Rattle.walter_base.specs.declared.format.Format.TheVariants.{First}
 use Rattle.walter_base.specs.declared.memory.NoMemory.{NoMemory}
 use Rattle.walter_base.specs.declared.names.SiteId.{SiteId}
 use Rattle.walter_machine.specs.Machines.{catalog_in, site_in}
@@ -94,8 +95,8 @@ module _ (catalog : Catalog) (seats : List Seat) (w : WorldEvent) (h : Happening
   can_here : CanTake catalog w.site a h.event h.keeps
   can_here = record {
     seat_is = seat_here;
-    layout = one_area enough;
-    right = subst (λ (t : List Entry). AreRight catalog (one_area enough) w.site (reverse t)) (trail_here seats w.site.0 a S.at)
+    layout = one_area enough First;
+    right = subst (λ (t : List Entry). AreRight catalog (one_area enough First) w.site (reverse t)) (trail_here seats w.site.0 a S.at)
         ((S.world.right.right enough (omega arith)).right w.site S.can.here).right;
     young = young_here;
     sized = event_sized catalog trails w.site all_sized w.what h.event h.put S.can.within S.comes.0;
@@ -113,7 +114,7 @@ module _ (catalog : Catalog) (seats : List Seat) (w : WorldEvent) (h : Happening
       (subst (λ (k : SiteId). CanTake catalog k a h.event h.keeps) (sym seat_here.site) can_here)
 
   pub put_below : (bound : ℕ) → AreEarly bound trails → h.put < bound
-  put_below bound before = put_early catalog trails w.site (λ k. one_area enough) bound (S.world.right.right enough (omega arith)) before
+  put_below bound before = put_early catalog trails w.site (λ k. one_area enough First) bound (S.world.right.right enough (omega arith)) before
       w.what h.event h.put S.can.within S.comes.0
 
   -- what it leaves
@@ -158,5 +159,5 @@ module _ (catalog : Catalog) (seats : List Seat) (w : WorldEvent) (h : Happening
     later_on (inr more) bound before =
         let did = happened more in
         later_by_one catalog trails (trails_of new) w bound did
-        (put_early catalog trails w.site (λ k. one_area enough) bound (S.world.right.right enough (omega arith)) before w.what did.event did.put
+        (put_early catalog trails w.site (λ k. one_area enough First) bound (S.world.right.right enough (omega arith)) before w.what did.event did.put
         S.can.within did.brings) before

@@ -1,6 +1,7 @@
 -- What an event comes to at a site without a disk: what the rule says; or its record meets a fault.
 use Rattle.std.specs.Prelude.{ℕ, Bool, true, false, not, ◌&&◌, List, [], reverse, Option, Some, None, if◌then◌else◌}
 use Rattle.walter_base.specs.declared.catalog.Catalog.{Catalog}
+use Rattle.walter_base.specs.declared.format.Format.TheVariants.{First}
 use Rattle.walter_base.specs.declared.message.Record.{Record}
 use Rattle.walter_base.specs.declared.names.SiteId.{SiteId}
 use Rattle.walter_machine.specs.Posts.{stamp_behind}
@@ -52,7 +53,7 @@ breaks fate wrote = false
 
 -- what an event comes to at a site that stood so, where this record is found
 abbrev pub comes_to : Catalog → SiteId → Standing → Event → Option Record → Fate → Came
-comes_to catalog i S event kept fate = came_by fate event kept (rule catalog i (settled catalog i kept S) event)
+comes_to catalog i S event kept fate = came_by fate event kept (rule First catalog i (settled catalog i kept S) event)
 
 -- its entry, behind a trail; the packet that it brings was put out with this stamp, which is 0 where it brings none
 abbrev pub entry_of : Catalog → SiteId → List Entry → Event → ℕ → Bool → Fate → Entry

@@ -1,6 +1,7 @@
 -- What an event leaves of the trails of all sites, what these promise, and what a world is.
 use Rattle.std.specs.Prelude.{◌≡◌, ◌≢◌, ◌⊎◌, ◌<◌, ◌≤◌, ℕ, List, [], ◌∷◌, ◌++◌, length, map, reverse, slice_get, false, Some}
 use Rattle.walter_base.specs.declared.catalog.Catalog.{Catalog}
+use Rattle.walter_base.specs.declared.format.Format.TheVariants.{First}
 use Rattle.walter_base.specs.declared.names.SiteId.{SiteId}
 use Rattle.walter_base.specs.Vectors.{most_sites}
 use Rattle.walter_linked.specs.Catalogs.{IsWhole}
@@ -59,7 +60,7 @@ pub data HaveHappened (catalog : Catalog) (first : List (List Entry)) : List Wor
 -- where journals have place enough, they are right and linked
 pub record AreRightWithPlace (catalog : Catalog) (trails : List (List Entry)) : Type 0 where
   pub enough : ℕ
-  pub right : (capacity : ℕ) → enough ≤ capacity → AreRightTrails catalog (λ k. one_area capacity) trails
+  pub right : (capacity : ℕ) → enough ≤ capacity → AreRightTrails catalog (λ k. one_area capacity First) trails
 
 -- So they spell a legal history, in which each commit stands once, under its number wherever it has come; each abort
 -- has its cause; and what is said to be durable or visible is.

@@ -1,5 +1,6 @@
 //! A site without a disk, with its trail.
 ghost use Rattle.std.specs.Prelude.{◌≡◌, ◌<◌, ◌++◌, ◌∷◌, [], ℕ, false, None, reverse, IfOk, OnErr, OnOk};
+ghost use Rattle.walter_base.specs.declared.format.Format.TheVariants.{First};
 ghost use Rattle.walter_machine.specs.Machines.{catalog_in, site_in, tables_in, is_up, HasRoom, HasStanding, IsCountable, IsCounted};
 ghost use Rattle.walter_machine.specs.Posts.{stamp_behind};
 ghost use Rattle.walter_machine.specs.Readiness.{IsReadyFor, IsReadyAnyway, rec_in};
@@ -15,7 +16,7 @@ ghost use Rattle.walter_world.specs.Seats.{CanTake, HasCome, IsSeat, standing_of
 use crate::events::Fate;
 use crate::replaying::{Recovery, replay, told_by};
 use std::alloc::Global;
-use walter_base::{Mem, NoMemory};
+use walter_base::{Format, Mem, NoMemory};
 use walter_machine::{BootFault, Machine, Ready};
 use walter_rules::{Came, Entry, Event, Outcome};
 use walter_tables::Tables;
@@ -71,7 +72,7 @@ impl Seat {
     {
         if self.machine.is_up() {
             let mut ready = Ready::none(alloc);
-            self.machine.prepare(event, &mut ready)?;
+            self.machine.prepare(event, Format::First, &mut ready)?;
             return Ok(come(alloc, &mut self.machine, event, ready, fate));
         }
         match event {
@@ -130,7 +131,7 @@ impl Seat {
 fn boot(alloc: Global, tables: Tables) -> Mem<Ready>
     requires { (K : Knowledge) × Stands tables K × (K.epoch < 4294967295) }
     ensures ready { (S : Standing) → S.up ≡ false → Stands tables S.knows
-        → IfOk result (IsReadyFor (catalog_of tables) (site_of tables) None S Restart) }
+        → IfOk result (IsReadyFor First (catalog_of tables) (site_of tables) None S Restart) }
     ensures anyway { IfOk result (IsReadyAnyway (catalog_of tables) (site_of tables) None Restart) }
 {
     match Ready::boot(alloc, tables) {
@@ -147,7 +148,7 @@ fn come(alloc: Global, machine: &mut Machine, event: &Event, mut ready: Ready, f
     requires anyway { IsReadyAnyway (catalog_in machine.old) (site_in machine.old) (tables_in machine.old) event.now
         ready }
     ensures { (S : Standing) → HasStanding machine.old S → IsCounted machine.old S (rec_in ready)
-        → IsReadyFor (catalog_in machine.old) (site_in machine.old) (tables_in machine.old) S event.now ready
+        → IsReadyFor First (catalog_in machine.old) (site_in machine.old) (tables_in machine.old) S event.now ready
         → HasCome (catalog_in machine.old) (site_in machine.old) S event.now None fate result machine.new }
 {
     let mut came = Came::only(alloc, Outcome::Passed);

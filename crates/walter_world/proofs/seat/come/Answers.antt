@@ -1,4 +1,5 @@
 use Rattle.std.proofs.Common.{sym, ◌∙◌, subst}
+use Rattle.walter_base.specs.declared.format.Format.TheVariants.{First}
 use Rattle.walter_machine.proofs.Sizes.{only_alone}
 use Rattle.walter_machine.specs.Machines.{catalog_in, site_in, tables_in}
 use Rattle.walter_machine.specs.Readiness.{rec_in}
@@ -25,7 +26,7 @@ returns-then-breaks c S stands counted is =
       site = c.fail.ensures.same.id;
       came_is = comes_broken (catalog_in m) (site_in m) (tables_in m) S c.args.event.now c.args.ready c.args.fate c.fail.new.came
           is falls c.fail.ensures.came;
-      stands = c.fail.ensures.stands S stands counted is;
+      stands = c.fail.ensures.stands First S stands counted is;
       spelled = fallen_spelled (catalog_in m).sites c.args.event.now (rec_in c.args.ready) c.fail.new.came
           (breaks_some c.args.fate (rec_in c.args.ready) falls) c.fail.ensures.came;
     }
@@ -38,6 +39,6 @@ returns c S stands counted is =
       site = c.keep.ensures.same.id;
       came_is = comes_stable (catalog_in m) (site_in m) (tables_in m) S c.args.event.now c.args.ready c.args.fate
           c.keep.new.came is (sym c.breaks.ensures ∙ c.if-breaks.false) c.keep.ensures.came;
-      stands = c.keep.ensures.stands S stands counted is;
+      stands = c.keep.ensures.stands First S stands counted is;
       spelled = subst (AreSpelled (catalog_in m).sites) (sym c.keep.ensures.came) is.sized.sends;
     }

@@ -1,4 +1,5 @@
 use Rattle.std.proofs.Common.{◌≡◌, ◌++◌, length, ap, ◌∙◌, arith}
+use Rattle.walter_base.specs.declared.format.Format.TheVariants.{First}
 use Rattle.walter_base.specs.Sizes.{size_of_record}
 use Rattle.walter_record.specs.Spelling.{record_spelled}
 use Rattle.walter_record.proofs.Records.{length-record_spelled}
@@ -7,7 +8,7 @@ use Rattle.walter_report.proofs.frame.Frame.write_record.Goals as goal
 pub invariant_of-self : goal.invariant_of-self
 invariant_of-self c =
     let stable = c.args.stable.now in
-    let long : length c.append.new.out.bytes ≡ size_of_record stable =
-    ap length (c.append.ensures.bytes ∙ ap (λ t. t ++ record_spelled stable) c.clear.ensures.bytes)
-    ∙ length-record_spelled stable c.requires in
+    let long : length c.append.new.out.bytes ≡ size_of_record First stable =
+    ap length (c.append.ensures.bytes ∙ ap (λ t. t ++ record_spelled First stable) c.clear.ensures.bytes)
+    ∙ length-record_spelled First stable c.requires.fits in
     omega (arith, long, c.append.ensures.room, c.clear.ensures.room, c.self.invariant)

@@ -1,6 +1,7 @@
 use Rattle.std.proofs.Common.{sym, ◌∙◌, subst, refl}
 use Rattle.std.specs.Prelude.{IfOk}
 use Rattle.walter_base.specs.declared.catalog.Catalog.{Catalog}
+use Rattle.walter_base.specs.declared.format.Format.TheVariants.{First}
 use Rattle.walter_base.specs.declared.names.SiteId.{SiteId}
 use Rattle.walter_machine.proofs.Sizes.{only_alone}
 use Rattle.walter_machine.specs.Machines.{catalog_in, site_in, tables_in}
@@ -62,4 +63,4 @@ pub returns-in_default-clause-comes : goal.returns-in_default-clause-comes
 returns-in_default-clause-comes c =
     let d = c.decline.ensures in
     declined c.args.self.now c.args.event.now c.args.keeps c.args.fate c.decline.new.came c.requires
-    (sym c.is_up.ensures ∙ c.if-is_up.false) c.in_default.not-Restart d.alone d.ruled d.stands
+    (sym c.is_up.ensures ∙ c.if-is_up.false) c.in_default.not-Restart d.alone (d.ruled First) d.stands
