@@ -1,14 +1,10 @@
 -- What the trails of a bench are, cell by cell.
 use Rattle.std.proofs.Common.{◌≡◌, ℕ, ◌<◌, zero, suc, List, [], ◌∷◌, length, map, slice_get, get_or, reverse, true, Option, Some, None, option_map, refl, ap, sym, ◌∙◌, subst, arith}
-use Rattle.std.specs.Prelude.{All, IfSome, slice_index_or}
+use Rattle.std.specs.Prelude.{All, slice_index_or}
 use Rattle.std.proofs.lemmas.List.{length-map}
 use Rattle.std.proofs.lemmas.List.Elements.{All-weaker, All-push}
 use Rattle.std.proofs.lemmas.Option.{slice_get-map, slice_get-get_or, get_or_from_slice_get}
 use Rattle.walter_base.specs.declared.catalog.Catalog.{Catalog}
-use Rattle.walter_base.specs.declared.format.Format.TheVariants.{First}
-use Rattle.walter_base.specs.declared.message.Record.{Record}
-use Rattle.walter_base.specs.declared.message.Record.TheVariants.{Own, Got, SlowBegin}
-use Rattle.walter_base.specs.Sizes.{most_in}
 use Rattle.walter_base.proofs.NameTests.{same_site-true}
 use Rattle.walter_base.specs.declared.format.Format.TheVariants.{First}
 use Rattle.walter_base.specs.declared.names.SiteId.{SiteId}
@@ -31,7 +27,7 @@ use Rattle.walter_refinement.proofs.Trails.{trails_legal, trails_once, trails_na
 use Rattle.walter_reply.specs.Replies.{FitsFrame}
 use Rattle.walter_reply.proofs.Lengths.{short_fits}
 use Rattle.walter_report.specs.Reports.{reply_in, HaveFrames}
-use Rattle.walter_report.specs.Traces.{CanBeTold, HasSpellings, HaveSpellings}
+use Rattle.walter_report.specs.Traces.{HasSpellings, HaveSpellings}
 use Rattle.walter_rules.specs.declared.entry.Entry.{Entry}
 use Rattle.walter_rules.specs.declared.outcome.Outcome.{Outcome}
 use Rattle.walter_rules.specs.declared.outcome.Outcome.TheVariants.{Replied, Taken, Passed, Failed, Full, Memory as IsMemory, Down as IsDown, Refused as IsRefused}
@@ -39,7 +35,6 @@ use Rattle.walter_rules.specs.Knowledge.{site_at}
 use Rattle.walter_rules.specs.Layouts.{Layout, one_area}
 use Rattle.walter_rules.specs.Merges.{trail_of, AreLinked}
 use Rattle.walter_rules.specs.Kinds.{IfCall}
-use Rattle.walter_rules.specs.Records.{IsRecordAmong}
 use Rattle.walter_rules.specs.Trails.{AreRight, IsRightTrail, opening}
 use Rattle.walter_runs.specs.Runs.{AreRightTrails}
 use Rattle.walter_scenario.specs.declared.scenario.Client.{Client}
@@ -100,19 +95,6 @@ outcome_frames (Full need left) fits = λ k d within. absurd (omega (arith, with
 outcome_frames IsMemory fits = λ k d within. absurd (omega (arith, within))
 outcome_frames IsDown fits = λ k d within. absurd (omega (arith, within))
 outcome_frames IsRefused fits = λ k d within. absurd (omega (arith, within))
-
--- ---- records
-
--- a record of a site among so few has a spelling in the first format
-told_among : (sites : ℕ) (rec : Record) → sites ≤ most_in First → IsRecordAmong sites rec → CanBeTold rec
-told_among sites (Own seq tx) few is = record { sizes = is.1; fits = omega (arith, few, is.0) }
-told_among sites (Got from seq tx) few is = record { sizes = is.1; fits = omega (arith, few, is.0) }
-told_among sites (SlowBegin n tx) few is = record { sizes = is.1; fits = omega (arith, few, is.0) }
-told_among sites rec few is = record { sizes = is; fits = tt }
-
-told_if : (sites : ℕ) (rec : Option Record) → sites ≤ most_in First → IfSome rec (IsRecordAmong sites) → IfSome rec CanBeTold
-told_if sites None few is = tt
-told_if sites (Some rec) few is = told_among sites rec few is
 
 -- ---- benches
 
@@ -245,16 +227,10 @@ module _ {D : Type 0} (g : Ghosts D) (t : Scenario) (bench : BenchValue D) (of :
       (All-weaker (λ (e : Entry). IsSized there.0.node.catalog.sites e.came) (λ (e : Entry). All FitsFrame (reply_in e.came.outcome))
       (λ e sized. outcome_frames e.came.outcome sized.outcome) there.0.node.trail (sound i there.0 there.1).0.sized))
 
-  pub spellings : t.catalog.sites ≤ most_in First → HaveSpellings trails
-  spellings most = all_there trails (λ trail. All HasSpellings trail) (λ i trail at.
+  pub spellings : HaveSpellings trails
+  spellings = all_there trails (λ trail. All HasSpellings trail) (λ i trail at.
       let there = field_of (λ (c : CellValue D). c.node.trail) bench.cells i trail at in
-      let few : there.0.node.catalog.sites ≤ most_in First =
-      subst (λ (k : Catalog). k.sites ≤ most_in First) (sym (of.catalogs i there.0 there.1)) most in
       subst (λ (es : List Entry). All HasSpellings es) there.2
       (All-weaker (λ (e : Entry). IsSized there.0.node.catalog.sites e.came) HasSpellings
-      (λ e sized. record {
-        kept = told_if there.0.node.catalog.sites e.came.kept few sized.kept;
-        wrote = told_if there.0.node.catalog.sites e.came.wrote few sized.wrote;
-        flight = told_if there.0.node.catalog.sites e.came.flight few sized.flight;
-      }) there.0.node.trail
+      (λ e sized. record { kept = sized.kept; wrote = sized.wrote; flight = sized.flight }) there.0.node.trail
       (sound i there.0 there.1).0.sized))

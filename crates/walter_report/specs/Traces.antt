@@ -1,16 +1,18 @@
 -- The text of a trace (docs/FORMATS.md, "Reports"): a line for each entry, by stamp and then by site.
-use Rattle.std.specs.Prelude.{List, ℕ, ◌++◌, map, flat_map, codes, Option, Some, None, Result, Ok, Err, IfSome, All}
+use Rattle.std.specs.Prelude.{List, ℕ, ◌++◌, length, map, flat_map, codes, nat_le, if◌then◌else◌, Option, Some, None, Result, Ok, Err, IfSome, All}
 use Rattle.std.specs.Fmt.{decimal}
 use Rattle.hex.specs.Hex.{encode_lower}
-use Rattle.walter_base.specs.declared.format.Format.TheVariants.{First}
+use Rattle.walter_base.specs.declared.format.Format.{Format}
+use Rattle.walter_base.specs.declared.format.Format.TheVariants.{First, Second}
 use Rattle.walter_base.specs.declared.message.BadFrame.{BadFrame}
 use Rattle.walter_base.specs.declared.message.Record.{Record}
+use Rattle.walter_base.specs.declared.message.Record.TheVariants.{Own, Got, SlowBegin}
 use Rattle.walter_base.specs.declared.message.Request.{Request}
 use Rattle.walter_base.specs.declared.message.Request.TheVariants.{Start, Read, Write, SetAdd, SetDel, SetRead, SetReadId, Commit, Abort, Level}
 use Rattle.walter_base.specs.declared.packet.Packet.{Packet}
 use Rattle.walter_base.specs.declared.packet.Packet.TheVariants.{Propagate, Ack, Dsmark, Visible, Prepare, Vote, Release, Released}
-use Rattle.walter_base.specs.Sizes.{CanBeRecorded}
-use Rattle.walter_record.specs.Spelling.{record_spelled, FitsFormat}
+use Rattle.walter_base.specs.Sizes.{CanBeRecorded, most_in}
+use Rattle.walter_record.specs.Spelling.{record_spelled}
 use Rattle.walter_rules.specs.declared.entry.Came.{Came}
 use Rattle.walter_rules.specs.declared.entry.Entry.{Entry}
 use Rattle.walter_rules.specs.declared.event.Event.{Event}
@@ -24,16 +26,11 @@ use Rattle.walter_rules.specs.Sending.{Send}
 use Rattle.walter_report.specs.Reports.{reply_frame}
 use Rattle.walter_report.specs.Words.{line_feed, listed}
 
--- a record has a spelling in the first format
-pub record CanBeTold (rec : Record) : Type 0 where
-  pub sizes : CanBeRecorded rec
-  pub fits : FitsFormat First rec
-
--- each record of an entry has one
+-- each record of an entry has a spelling
 pub record HasSpellings (e : Entry) : Type 0 where
-  pub kept : IfSome e.came.kept CanBeTold
-  pub wrote : IfSome e.came.wrote CanBeTold
-  pub flight : IfSome e.came.flight CanBeTold
+  pub kept : IfSome e.came.kept CanBeRecorded
+  pub wrote : IfSome e.came.wrote CanBeRecorded
+  pub flight : IfSome e.came.flight CanBeRecorded
 
 -- each record in the trails has one
 abbrev pub HaveSpellings : List (List Entry) → Type 0
@@ -89,10 +86,21 @@ outcome_text Memory = codes "memory"
 outcome_text Down = codes "down"
 outcome_text Refused = codes "refused"
 
--- a record in hex, in the first format, or a dash
+-- The format in which a record is told: the first, where that has a place for each number of its snapshot, as in each run of
+-- at most eight sites.
+abbrev pub told_for : List ℕ → Format
+told_for start = if nat_le (length start) (most_in First) then First else Second
+
+abbrev pub told_in : Record → Format
+told_in (Own seq tx) = told_for tx.start
+told_in (Got site seq tx) = told_for tx.start
+told_in (SlowBegin slow tx) = told_for tx.start
+told_in rec = First
+
+-- a record in hex, or a dash
 abbrev pub record_text : Option Record → List ℕ
 record_text None = codes "-"
-record_text (Some rec) = encode_lower (record_spelled First rec)
+record_text (Some rec) = encode_lower (record_spelled (told_in rec) rec)
 
 -- what is put out: "<to>:<packet>" for each
 abbrev pub send_text : Send → List ℕ

@@ -4,7 +4,7 @@ ghost use Rattle.walter_reply.specs.Replies.{FitsFrame};
 ghost use Rattle.walter_report.specs.Lists.{list_behind};
 ghost use Rattle.walter_report.specs.Pages.{Puts};
 ghost use Rattle.walter_report.specs.Reports.{reply_in};
-ghost use Rattle.walter_report.specs.Traces.{CanBeTold, HasSpellings, call_word, packet_word, input_text, event_text, outcome_text, record_text, send_text, sends_text, happened_part, records_part, sends_part, trace_line};
+ghost use Rattle.walter_report.specs.Traces.{HasSpellings, call_word, packet_word, input_text, event_text, outcome_text, record_text, send_text, sends_text, happened_part, records_part, sends_part, trace_line};
 
 use crate::frame::Frame;
 use crate::lists::comma_behind;
@@ -94,7 +94,7 @@ fn put_record<K: Sink>(
     frame: &mut Frame,
     found: &MaybeRecord,
 ) -> Result<(), Failed>
-    requires { IfSome found.now CanBeTold }
+    requires { IfSome found.now CanBeRecorded }
     ensures { Puts K.holds K.faults sink.old sink.new page.old page.new
         (codes " " ++ record_text found.now) result }
 {

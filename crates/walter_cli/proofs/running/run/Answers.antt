@@ -105,7 +105,7 @@ module _ (g : Over) (c : After-give_all-given g) where
   spelled : HaveSpellings trails
   spelled = subst HaveSpellings (sym c.close-trails.ensures.gives.trails)
       (spellings g.R.D.Disk c.args.scenario.now c.drive-bench.result.0 is_of
-      c.close-trails.ensures.bench c.close-trails.ensures.sound c.requires.playable.few)
+      c.close-trails.ensures.bench c.close-trails.ensures.sound)
 
 pub returns-then-is_err-clause-given_back : goal.returns-then-is_err-clause-given_back
 returns-then-is_err-clause-given_back g c = back g (goal.at.returns-then-is_err-clause-given_back g c).After-give_all-given
