@@ -11,4 +11,4 @@ pub mod Shown
 pub mod Stands
 pub mod Tallied
 pub mod Telling
-pub mod Told
+pub mod FormatTold

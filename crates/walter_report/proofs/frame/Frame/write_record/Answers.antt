@@ -3,7 +3,7 @@ use Rattle.walter_base.specs.declared.format.Format.{Format}
 use Rattle.walter_base.specs.Sizes.{size_of_record}
 use Rattle.walter_record.specs.Spelling.{record_spelled, FitsFormat}
 use Rattle.walter_record.proofs.Records.{length-record_spelled}
-use Rattle.walter_report.proofs.Told.{fits_told}
+use Rattle.walter_report.proofs.FormatTold.{fits_told}
 use Rattle.walter_report.specs.Traces.{told_in}
 use Rattle.walter_report.proofs.frame.Frame.write_record.Goals as goal
 
