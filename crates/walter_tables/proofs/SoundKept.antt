@@ -15,7 +15,7 @@ use Rattle.walter_base.specs.Names.{same_site}
 use Rattle.walter_base.proofs.NameTests.{same_site_refl}
 use Rattle.walter_rules.specs.declared.event.Event.{Event}
 use Rattle.walter_rules.specs.declared.event.Event.TheVariants.{Given, Stop, Restart}
-use Rattle.walter_rules.specs.declared.event.Input.TheVariants.{Call, Deliver, Advance, Tick}
+use Rattle.walter_rules.specs.declared.event.Input.TheVariants.{Call, Deliver, Advance, Tick, Upgrade}
 use Rattle.walter_rules.specs.declared.held.Held.{Held}
 use Rattle.walter_rules.specs.declared.outcome.Outcome.{Outcome}
 use Rattle.walter_rules.specs.declared.outcome.Outcome.TheVariants.{Replied, Taken, Passed, Failed, Full, Memory, Down, Refused}
@@ -398,6 +398,7 @@ module _ (catalog : Catalog) (i : SiteId) (K : Knowledge) (S : IsSound catalog i
   silent_then (Given (Call client call)) Taken h n = silent n
   silent_then (Given (Advance from)) Taken h n = silent n
   silent_then (Given Tick) Taken h n = silent n
+  silent_then (Given Upgrade) Taken h n = silent n
   silent_then Stop Taken h n = silent n
   silent_then Restart Taken h n = silent n
   silent_then (Given (Deliver j number (Propagate seq tx))) Taken h n = silent n
