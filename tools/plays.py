@@ -65,11 +65,13 @@ def take_path(parser, given, name):
 
 
 def built(program):
-    """The program itself, once ./walter, where it is that, has proved and built it."""
+    """The program itself, where ./walter is asked for it, which proves and builds it first where that isn't done yet."""
     if program != PROGRAM:
         return program
-    by_program(program, scripts.text_of({"sites": 1, "f": 0, "containers": [], "clients": [], "steps": []}), False)
-    return os.path.join(TOP, "crates", "walter", "out", "walter")
+    found = subprocess.run([program, "--where"], stdout=subprocess.PIPE, text=True)
+    if found.returncode != 0:
+        raise ends.End(found.returncode, "")
+    return found.stdout.rstrip("\n")
 
 
 def run_of(scenario, report):

@@ -9,7 +9,7 @@ import sys
 import unittest
 import unittest.mock
 
-from played import InFolder, RANDOM, TOP, by_model, examples, file_text, random_run, run_tool, seconds_of_commands, tool, \
+from played import InFolder, RANDOM, TOP, built_program, by_model, examples, file_text, random_run, run_tool, seconds_of_commands, tool, \
     without_trace
 
 EXAMPLES = os.path.join(TOP, "examples")
@@ -111,8 +111,8 @@ class Play(InFolder):
         self.assertEqual(run_tool("play", SLOW, "--program", empty)[0], 2)
 
     def test_the_program_of_this_repository_tells_the_same(self):
-        program = os.path.join(TOP, "crates", "walter", "out", "walter")
-        if not os.path.exists(program):
+        program = built_program()
+        if program is None:
             self.skipTest("the program isn't proved and built here")
         for path in examples("expect"):
             self.assertEqual(run_tool("play", path.replace(".expect", ".script"), "--program", program, "--expect", path)[0], 0)
