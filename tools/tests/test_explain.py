@@ -12,6 +12,7 @@ from collections import Counter
 
 from played import TOP, RANDOM, by_model, example_run, examples, file_text, random_run, source_of, without_trace
 import clocks
+import edn
 import histories
 import model
 import reports
@@ -373,7 +374,7 @@ ann: commit
             '{:type :ok, :f :txn, :value [[:w "1:5" "a"] [:r "1:5" "a"]], :process 0, :index 2}',
             '{:type :fail, :f :txn, :value [[:r "1:5" nil] [:w "1:5" "\\u0000\\u00ff\\""]], :process 1, :index 3}',
             '{:type :invoke, :f :txn, :value [[:r "1:5" nil]], :process 0, :index 4}',
-            '{:type :info, :f :txn, :value [[:r "1:5" nil]], :process 0, :index 5}',
+            '{:type :info, :f :txn, :value [[:r "1:5" "a"]], :process 0, :index 5}',
             '{:type :invoke, :f :txn, :value [[:r "1:5" nil]], :process 2, :index 6}',
             '{:type :ok, :f :txn, :value [[:r "1:5" "a"]], :process 2, :index 7}',
         ])
@@ -385,7 +386,7 @@ ann: commit
         reads = '{:type :invoke, :f :sets, :value [[:r "3:1" nil] [:count "3:1" 5 nil]], :process 0, :index 4}'
         self.assertEqual(lines[-2], reads)
         self.assertEqual(histories.History(run).text(), "")
-        self.assertEqual(histories.edn({7: 2, 9: -1}), "{7 2, 9 -1}")
+        self.assertEqual(edn.edn({7: 2, 9: -1}), "{7 2, 9 -1}")
 
     def test_a_value_is_written_to_an_object_once(self):
         """Elle tells writes apart by their values; one transaction may write a value twice."""
@@ -412,7 +413,7 @@ ann: commit
                         ended |= {process} if one["type"] == "info" else set()
                 self.assertEqual(open_at, {})
                 for one in operations[:20]:
-                    self.assertEqual(read_edn(histories.edn(one)), plain(one))
+                    self.assertEqual(read_edn(edn.edn(one)), plain(one))
 
     def test_clocks(self):
         """A log is read back by the expression in its first line; a clock says just which entries one comes behind."""

@@ -75,12 +75,12 @@ class Readme(unittest.TestCase):
 
     def test_what_it_names_is_there(self):
         for page in ["README.md", *(f"docs/{name}.md" for name in ("TOOLS", "PROMISES"))]:
-            for path in re.findall(r"\b((?:docs|tools|bench|examples|crates)/[A-Za-z_./]+[A-Za-z_])", file_text(os.path.join(TOP, page))):
+            for path in re.findall(r"\b((?:docs|tools|bench|examples|crates)/[A-Za-z_./-]+[A-Za-z_])", file_text(os.path.join(TOP, page))):
                 self.assertTrue(os.path.exists(os.path.join(TOP, path)), f"{page}: {path}")
 
     def test_the_pages_name_words_that_the_tools_have(self):
         page = file_text(os.path.join(TOP, "docs", "TOOLS.md"))
-        for tool in ("play", "explain", "draw", "vary"):
+        for tool in ("play", "explain", "draw", "vary", "check"):
             section = page.split(f"\n## {tool.capitalize()}\n")[1].split("\n## ")[0]
             # Commands of other tools stand in lines of their own.
             said = re.sub(r"(?m)^    .*$", "", section) + " ".join(re.findall(rf"tools/{tool} [^`]*", README))
@@ -90,12 +90,18 @@ class Readme(unittest.TestCase):
 
     def test_the_commands_of_the_page_of_tools_run(self):
         page = file_text(os.path.join(TOP, "docs", "TOOLS.md"))
-        commands = [one for one in COMMAND.findall(page) if "vary" not in one and one != "tools/play examples"]
+        commands = [one for one in COMMAND.findall(page)
+                    if not re.search("tools/(vary|check|make-dist)", one) and one != "tools/play examples"]
         self.assertEqual(len(commands), 6)
         with tempfile.TemporaryDirectory() as folder:
             with_folders(folder)
             for command in commands:
                 self.assertEqual(run("set -o pipefail; " + command, folder)[::2], (0, ""), command)
+
+    def test_a_run_that_fits_no_order_is_told_as_the_page_has_it(self):
+        page = file_text(os.path.join(TOP, "docs", "TOOLS.md"))
+        section = page.split("\n## Check\n")[1].split("\n## ")[0]
+        self.assertEqual(run(COMMAND.findall(section)[0], TOP), (1, BLOCK.findall(section)[0], ""))
 
     def test_the_report_in_bytes(self):
         page = file_text(os.path.join(TOP, "docs", "TOOLS.md"))
