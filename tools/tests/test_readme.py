@@ -80,8 +80,8 @@ class Readme(unittest.TestCase):
 
     def test_the_pages_name_words_that_the_tools_have(self):
         page = file_text(os.path.join(TOP, "docs", "TOOLS.md"))
-        for tool in ("play", "explain", "draw", "vary", "check"):
-            section = page.split(f"\n## {tool.capitalize()}\n")[1].split("\n## ")[0]
+        for tool in ("play", "explain", "draw", "vary", "check", "workload"):
+            section = page.split(f"\n## {tool.capitalize()}{'s' * (tool == 'workload')}\n")[1].split("\n## ")[0]
             # Commands of other tools stand in lines of their own.
             said = re.sub(r"(?m)^    .*$", "", section) + " ".join(re.findall(rf"tools/{tool} [^`]*", README))
             _, known, _ = run(f"tools/{tool} --help", TOP)
@@ -92,11 +92,15 @@ class Readme(unittest.TestCase):
         page = file_text(os.path.join(TOP, "docs", "TOOLS.md"))
         commands = [one for one in COMMAND.findall(page)
                     if not re.search("tools/(vary|check|make-dist)", one) and one != "tools/play examples"]
-        self.assertEqual(len(commands), 6)
+        self.assertEqual(len(commands), 8)
         with tempfile.TemporaryDirectory() as folder:
             with_folders(folder)
             for command in commands:
                 self.assertEqual(run("set -o pipefail; " + command, folder)[::2], (0, ""), command)
+
+    def test_a_workload_is_told_as_the_page_has_it(self):
+        section = file_text(os.path.join(TOP, "docs", "TOOLS.md")).split("\n## Workloads\n")[1].split("\n## ")[0]
+        self.assertEqual(run(COMMAND.findall(section)[1], TOP), (0, BLOCK.findall(section)[0], ""))
 
     def test_a_run_that_fits_no_order_is_told_as_the_page_has_it(self):
         page = file_text(os.path.join(TOP, "docs", "TOOLS.md"))
