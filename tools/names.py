@@ -156,12 +156,12 @@ class Course:
         if not site.up:
             return f"site {here} is down"
         if number > site.got[there]:
-            return f"{there}:{number} isn't received there"
+            return f"{there}@{number} isn't received there"
         if number > site.durable_at[there]:
-            return f"{there}:{number} isn't durable by the word of site {there}"
+            return f"{there}@{number} isn't durable by the word of site {there}"
         for k, start in enumerate(site.log[there, number].start):
             if start > site.committed[k]:
-                return f"its cause {k}:{site.committed[k] + 1} isn't committed there"
+                return f"its cause {k}@{site.committed[k] + 1} isn't committed there"
         return None
 
     def advance_all(self, here):

@@ -353,7 +353,7 @@ class Legend:
         """A transaction, with its client, and its version where it was committed."""
         client = self.picture.run.scenario.names[self.picture.run.sessions.started[name].client]
         version = self.picture.names.versions.get(name)
-        return f"{words.name(name)} of {client}" + (f": committed {words.pair(version)}" if version else "")
+        return f"{words.name(name)} of {client}" + (f": committed {words.version(version)}" if version else "")
 
     def parts(self, top):
         drawn = []

@@ -49,7 +49,7 @@ cat: bytes 00000001
 stop 1
 bob: bytes 0000000108
 """
-FAULT = '0 <- 1 packet 2 PROPAGATE 1 of 1.1.1 (write 1:5 "s"): the disk failed; Got 1:1 is in flight, site 0 is down'
+FAULT = '0 <- 1 packet 2 PROPAGATE 1 of 1.1.1 (write 1:5 "s"): the disk failed; Got 1@1 is in flight, site 0 is down'
 LINES = f"""armed 0 call 30 choice 0 -> never comes: a later one takes its place
 armed 0 call 7 choice 1 -> comes at: {FAULT}
 bob start -> started 1.1.1
@@ -59,13 +59,13 @@ bob commit -> deciding 1.1.1; the slow commit 1 begins
 ann start -> started 0.1.1
 ann write 1:5 hex 00ff -> done
 ann commit -> aborted: 1:5 is locked by 1.1.1
-1 <- 0 packet 1 VOTE 1 YES: committed 1:1
+1 <- 0 packet 1 VOTE 1 YES: committed 1@1
 tick 1 -> to 0: PROPAGATE 1 of 1.1.1 (write 1:5 "s") as packet 3
 {FAULT}
 ann level 0.1.1 -> refused: the site is down
-restart 0 -> site 0 is up in epoch 2; found Got 1:1
+restart 0 -> site 0 is up in epoch 2; found Got 1@1
 arm 1 call 5 choice 1 -> never comes
-advance 1 from 0 -> nothing is committed: 0:1 isn't received here
+advance 1 from 0 -> nothing is committed: 0@1 isn't received here
 ann abort -> refused: no transaction is open
 stop 1 -> site 1 is down
 not played: bob commit: it had no turn
@@ -108,7 +108,7 @@ deliver to 1 from 0 packet 2
 LATER = [
     "0 <- 1 packet 3 PREPARE 2 of 1.1.2 for 1:5: votes LATER: 1:5 is locked by 1.1.1, and not all that the snapshot sees is "
     "received here",
-    '0 <- 1 packet 2 PROPAGATE 1 of 1.1.1 (write 1:5 "s"): received 1:1',
+    '0 <- 1 packet 2 PROPAGATE 1 of 1.1.1 (write 1:5 "s"): received 1@1',
     "0 <- 1 packet 3 PREPARE 2 of 1.1.2 for 1:5: votes LATER: 1:5 is locked by 1.1.1, which the snapshot sees",
     "1 <- 0 packet 2 VOTE 2 LATER, 1:5 is locked by 1.1.1, and not all that the snapshot sees is received here: "
     "nothing new: site 0 is to be asked again at a tick",
@@ -201,8 +201,8 @@ class Explain(unittest.TestCase):
             ("crossed_slow_commits", "0 <- 3 packet 1 PREPARE 1 of 3.1.1 for 1:1: votes NO, it is over"),
             ("locks_outlive_a_stop", "bob commit -> aborted: 1:1 is locked by 2.1.1"),
             ("durable_and_visible", "0 <- 2 packet 1 ACK 1: durable mark 1"),
-            ("stop_at_the_gate", "restart 0 -> site 0 is up in epoch 2; found Own 0:1"),
-            ("two_writers", "bob commit -> aborted: 1:5 was modified by 0:1"),
+            ("stop_at_the_gate", "restart 0 -> site 0 is up in epoch 2; found Own 0@1"),
+            ("two_writers", "bob commit -> aborted: 1:5 was modified by 0@1"),
             ("pumped_link", "pump 1: tick 1 -> to 0: PREPARE 1 of 1.1.1 for 1:5 as packet 3"),
             ("pumped_link", "lost by the link: 1 <- 0 packet 1 VOTE 1 YES"),
         ]:
@@ -447,7 +447,7 @@ ann: commit
         text = by_model(file_text(SLOW)).text()
         told = subprocess.run(tool, input=text, capture_output=True, text=True)
         self.assertEqual((told.returncode, told.stderr), (0, ""))
-        self.assertIn("1 <- 0 packet 1 VOTE 1 YES: committed 1:1\n", told.stdout)
+        self.assertIn("1 <- 0 packet 1 VOTE 1 YES: committed 1@1\n", told.stdout)
         with tempfile.TemporaryDirectory() as folder:
             wanted, report = os.path.join(folder, "wanted"), os.path.join(folder, "report")
             for path, content in [(wanted, told.stdout), (report, text)]:

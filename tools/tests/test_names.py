@@ -110,8 +110,8 @@ class Names(unittest.TestCase):
         named = "deliver to 1 from 0 PROPAGATE\ndeliver to 1 from 0 PROPAGATE\ndeliver to 1 from 0 DSMARK 2\nadvance to 1\n"
         self.assertEqual(steps_of(COMMITTED + named)[-2:], [["advance", 1, 0]] * 2)
         self.is_refused(COMMITTED + "advance to 1\ndeliver to 1 from 0 PROPAGATE\nadvance to 1\nstop 1\nadvance to 1\n",
-                        'line 10: "to 1": wants something to commit at site 1: 0:1 isn\'t received there',
-                        'line 12: "to 1": wants something to commit at site 1: 0:1 isn\'t durable by the word of site 0',
+                        'line 10: "to 1": wants something to commit at site 1: 0@1 isn\'t received there',
+                        'line 12: "to 1": wants something to commit at site 1: 0@1 isn\'t durable by the word of site 0',
                         'line 14: "to 1": wants something to commit at site 1: site 1 is down')
 
     def test_the_level_of_the_last(self):

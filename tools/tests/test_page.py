@@ -90,7 +90,7 @@ class Page(unittest.TestCase):
         self.assertEqual([one["line"] for one in entries], [one.entry.line for one in pictures.in_order(run)])
         said = {one["line"]: (one["client"], one["transaction"], one["kind"], one["said"]) for one in entries}
         vote = next(line for line in said if line.startswith("e 6 1"))
-        self.assertEqual(said[vote], ("bob", "1.1.1", "VOTE", "1 <- 0 packet 1 VOTE 1 YES: committed 1:1 [Own 1:1]"))
+        self.assertEqual(said[vote], ("bob", "1.1.1", "VOTE", "1 <- 0 packet 1 VOTE 1 YES: committed 1@1 [Own 1@1]"))
 
     def test_text_of_a_script_stays_text(self):
         script = '# </title><script>\nsites 1 tolerated 0\ncontainer 1 regular at 0\nclient ann at 0\nann: start\n' \
@@ -107,12 +107,12 @@ class Page(unittest.TestCase):
         lines = {moment.site: dict(run.held[moment]) for moment in run.moments}
         self.assertEqual(lines[0], {"stands": "up", "committed": "nothing", "holds": "nothing", "locks": "1:5 for 1.1.1",
                                     "peers": "1 has said: received 0, committed 0, durable there 0"})
-        self.assertEqual(lines[1], {"stands": "up", "committed": "1:1", "holds": '1:5 "s"', "marks": "durable 0, visible 0",
+        self.assertEqual(lines[1], {"stands": "up", "committed": "1@1", "holds": '1:5 "s"', "marks": "durable 0, visible 0",
                                     "peers": "0 has said: received 0, committed 0, durable there 0"})
         self.assertEqual([dict(one)["stands"] for one in run.begin], ["down", "down"])
         stop = watched(os.path.join(TOP, "examples", "stop_at_the_gate.json"))
         stands = [dict(stop.held[moment])["stands"] for moment in stop.moments]
-        self.assertEqual(stands, ["up"] * 3 + ["down, with Own 0:1 in flight"] * 2 + ["up"] * 2)
+        self.assertEqual(stands, ["up"] * 3 + ["down, with Own 0@1 in flight"] * 2 + ["up"] * 2)
 
     def test_what_random_sites_hold_is_what_they_hold(self):
         """At the end the commits and the values are those of the model."""
@@ -134,7 +134,7 @@ class Page(unittest.TestCase):
         run = watched(os.path.join(TOP, "examples", "durable_and_visible.json"), 5, 7)
         data = data_of(pages.page(run, 5, 7))
         self.assertEqual({one["stamp"] for one in data["entries"]}, {5, 6, 7})
-        self.assertEqual(dict(data["begin"][0])["committed"], "0:1")
+        self.assertEqual(dict(data["begin"][0])["committed"], "0@1")
         self.assertEqual(dict(data["begin"][1])["committed"], "nothing")
 
     def test_which_transaction_entries_are_of(self):

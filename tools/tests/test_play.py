@@ -50,13 +50,13 @@ stop 2
 deliver to 2 from 0 PROPAGATE 2
 """
 WANTED = [
-    '1 <- 0 packet 3 PROPAGATE 2 of 0.1.2 (write 1:1 "b"): not received: 0:1 isn\'t received here',
-    "advance 1 from 0 -> nothing is committed: 0:1 isn't received here",
-    "advance 1 from 0 -> nothing is committed: 0:1 isn't durable by the word of site 0",
+    '1 <- 0 packet 3 PROPAGATE 2 of 0.1.2 (write 1:1 "b"): not received: 0@1 isn\'t received here',
+    "advance 1 from 0 -> nothing is committed: 0@1 isn't received here",
+    "advance 1 from 0 -> nothing is committed: 0@1 isn't durable by the word of site 0",
     "1 <- 0 packet 2 DSMARK 1: nothing new: 2 was said before",
-    '2 <- 1 packet 1 PROPAGATE 1 of 1.1.1 (write 2:1 "c"): not received: its cause 0:1 isn\'t received here',
-    "advance 2 from 1 -> nothing is committed: 1:1 isn't received here",
-    "advance 2 from 1 -> nothing is committed: its cause 0:1 isn't committed here",
+    '2 <- 1 packet 1 PROPAGATE 1 of 1.1.1 (write 2:1 "c"): not received: its cause 0@1 isn\'t received here',
+    "advance 2 from 1 -> nothing is committed: 1@1 isn't received here",
+    "advance 2 from 1 -> nothing is committed: its cause 0@1 isn't committed here",
     '2 <- 0 packet 1 PROPAGATE 1 of 0.1.1 (write 1:1 "a"): received already',
     '2 <- 0 packet 3 PROPAGATE 2 of 0.1.2 (write 1:1 "b"): site 2 is down',
 ]

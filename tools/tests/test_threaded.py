@@ -251,7 +251,7 @@ class Told(InFolder):
         status, told, _ = run_tool("explain", path, report)
         self.assertEqual(status, 0)
         self.assertEqual(told.splitlines()[:3], ["client0 start -> started 0.1.1", 'client0 write 1:5 "a" -> done',
-                                                 "client0 commit -> committed 0:1"])
+                                                 "client0 commit -> committed 0@1"])
 
     def test_steps_are_ignored_where_it_is_said(self):
         made = {**SMALL, "steps": [["stop", 0], ["call", 1]]}

@@ -114,7 +114,7 @@ class Vary(unittest.TestCase):
 
     def test_areas_that_have_no_part_in_it_are_left_out(self):
         script = scripts.read_script(file_text(os.path.join(EXAMPLES, "packed_on_restart.script")))
-        for broken, areas in ("-> refused: the journal needs 123 bytes", 2), ("ann commit -> committed 0:1", None):
+        for broken, areas in ("-> refused: the journal needs 123 bytes", 2), ("ann commit -> committed 0@1", None):
             search = smaller.Search(script, smaller.played(script, script.items),
                                     lambda run: any(broken in words for _, words in run.answers()), lambda run: True)
             found = search.smallest()
