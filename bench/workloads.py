@@ -9,8 +9,8 @@ import random
 import struct
 from collections import Counter, namedtuple
 
-import link
 import model
+import pumps
 from spelled import *
 
 # How a workload is made: its kind, how much there is of what, and how many of 100 transactions that write are slow commits. The rates
@@ -414,17 +414,9 @@ class Maker:
 
     def pump(self, here, is_whole):
         for _ in range(MOST_PUMPS if is_whole else self.rng.randrange(4)):
-            if not self.has_work(here):
+            if not pumps.has_work(self.run, here):
                 break
             self.step("pump", here)
-
-    def has_work(self, here):
-        """Whether a pump would do something else than a tick."""
-        site, inbox = self.run.sites[here], self.run.inboxes[here]
-        if not site.up or inbox.queue:
-            return True
-        arrived = any(inbox.taken[there] < len(self.run.sites[there].put_out[here]) for there in site.peers)
-        return arrived or site.least_enabled() is not None
 
     def tick(self, here):
         if self.run.sites[here].up:
@@ -442,7 +434,7 @@ class Maker:
                 (self.pump if self.pumped else self.bring)(site, True)
             if self.is_everywhere():
                 return
-            if not any(self.has_work(site) for site in range(self.asked.sites)) or not self.pumped:
+            if not self.pumped or not any(pumps.has_work(self.run, site) for site in range(self.asked.sites)):
                 for site in self.run.sites:
                     self.tick(site.me)
 

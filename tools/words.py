@@ -257,7 +257,8 @@ def outcome(moment, whole=True):
 
 def restarted(moment):
     if moment.entry.outcome[0] == "passed":
-        return f"site {moment.site} is up already"
+        pump = moment.pump and (f"line {moment.pump.line}" if moment.pump.line else f"step {moment.pump.place}")
+        return f"site {moment.site} is up already" + (f": the pump of {pump} has brought it up" if pump else "")
     return f"site {moment.site} is up in epoch {moment.entry.wrote.number}" if moment.entry.wrote else "taken"
 
 
@@ -329,6 +330,8 @@ def left_over(run):
             yield f"not played: {call(scenario, (client, frame))}: it had no turn"
         if scenario.rests[client]:
             yield f"not played: {scenario.names[client]} bytes {scenario.rests[client].hex()}: {why_no_call(calls)}"
+    for line in scenario.past_the_link():
+        yield f"past the link: settle in line {line} delivers all that is on its way, whatever the link would do with it"
     for step in run.steps:
         if step.why:
             yield f"not played: {step_words(scenario, step)}: {step.why}"

@@ -40,7 +40,7 @@ never delivered: 1 <- 0 packet 5 ACK 1
 lost by the link: 0 <- 1 packet 4 DSMARK 1
 """
 # What stands behind HEAD, the line that is wrong, the word that is quoted, what is wanted there, and the form.
-LINK_FORM, PUMP_FORM = "link seed N lose N repeat N swap N", "pump SITE"
+LINK_FORM, PUMP_FORM = "link seed N lose N repeat N swap N", "pump all or pump until idle or pump SITE"
 WRONG = [
     ("link seed 18446744073709551616 lose 0 repeat 0 swap 0", '"18446744073709551616": wants a seed below 2^64', LINK_FORM),
     ("link seed 0 lose 1001 repeat 0 swap 0", '"1001": wants of 1000 packets so many, to 1000', LINK_FORM),
