@@ -25,7 +25,7 @@ class Parser(argparse.ArgumentParser):
         super().__init__(description=text, formatter_class=argparse.RawDescriptionHelpFormatter, **more)
 
     def error(self, message):
-        raise End(NOT_AS_ASKED, f"{message}\n{self.format_usage().rstrip()}")
+        raise End(NOT_AS_ASKED, f"{message}; --help tells the words")
 
     def _print_message(self, message, file=None):
         if message:

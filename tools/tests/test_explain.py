@@ -475,7 +475,7 @@ ann: commit
             ([SLOW, "--shiviz"], without_trace(text), 2, "standard input: it has no trace, which --trace writes"),
             ([source_of(SLOW) + "x"], text, 3, source_of(SLOW) + "x: No such file or directory"),
             ([__file__], text, 2, __file__ + ', line 1: '),
-            (["/dev/null"], text, 2, "/dev/null, line 1: wants sites N tolerated F"),
+            (["/dev/null"], text, 2, "/dev/null: it is empty: wants a script or a scenario"),
             ([SLOW, "--fly"], text, 1, "unrecognized arguments: --fly"),
         ]:
             wrong = subprocess.run(tool + given, input=report, capture_output=True, text=True)

@@ -149,14 +149,14 @@ class Play(InFolder):
         script = self.write("wrong.script", 'sites 1 tolerated 0\nclient ann at 0\nann: write 1:5 "a\nfly\n')
         for words, status, said in [
             ([script], 2, f'play: {script}, line 3: "a: wants a text that ends: "..."\n{script}, line 4: "fly": wants one of '),
-            ([self.write("empty.script", "")], 2, f"play: {self.folder}/empty.script, line 1: wants sites N tolerated F\n"),
+            ([self.write("empty.script", "")], 2, f"play: {self.folder}/empty.script: it is empty: wants a script or a scenario\n"),
             ([self.write("wrong.json", '{"sites":9}')], 2, f"play: {self.folder}/wrong.json: the keys: wants sites, f"),
             ([self.write("broken.json", "{")], 2, f"play: {self.folder}/broken.json: the text is no JSON: line 1, column 1\n"),
             (["none.script"], 3, "play: none.script: No such file or directory\n"),
             ([self.folder], 0, None),
-            ([], 1, "play: wants the path of what is to be played\nusage: play "),
-            (["--fly"], 1, "play: unrecognized arguments: --fly\nusage: play "),
-            ([EXAMPLES, "--packets"], 1, "play: a folder is played without --packets\n"),
+            ([], 1, "play: wants the path of what is to be played; --help tells the words\n"),
+            (["--fly"], 1, "play: unrecognized arguments: --fly; --help tells the words\n"),
+            ([EXAMPLES, "--packets"], 1, "play: a folder is played without --packets; --help tells the words\n"),
             ([SLOW, "--expect", "none.expect"], 3, "play: none.expect: No such file or directory\n"),
         ]:
             if said:

@@ -151,7 +151,7 @@ class Vary(unittest.TestCase):
 
     def test_wrong_words_are_told(self):
         for words, status, said in [
-            ([], 1, "vary: wants the path of what is to be played\nusage: vary "),
+            ([], 1, "vary: wants the path of what is to be played; --help tells the words\n"),
             ([SLOW, "--seeds", "9..3"], 1, "vary: argument --seeds: '9..3': wants A..B"),
             ([SLOW, "--lose", "1001"], 1, "vary: argument --lose: '1001': wants a whole number to 1000"),
             ([SLOW, "--expect", "a", "--check", "b"], 1, "vary: argument --check: not allowed with argument --expect"),
