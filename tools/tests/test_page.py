@@ -86,6 +86,9 @@ class Page(unittest.TestCase):
         page = pages.page(run)
         self.assertIsNone(re.search(r"(src|href)=|@import|url\(", page))
         self.assertEqual(page.count("<svg "), 1)
+        # The panel says what to do, and nothing that is chosen lies under the bar.
+        self.assertIn('"what to do"', page)
+        self.assertIn("scroll-padding: calc(var(--bar) + 30px) 0 30px", page)
         entries = data_of(page)["entries"]
         self.assertEqual([one["line"] for one in entries], [one.entry.line for one in pictures.in_order(run)])
         said = {one["line"]: (one["client"], one["transaction"], one["kind"], one["said"]) for one in entries}

@@ -92,7 +92,7 @@ class Readme(unittest.TestCase):
         page = file_text(os.path.join(TOP, "docs", "TOOLS.md"))
         commands = [one for one in COMMAND.findall(page)
                     if not re.search("tools/(vary|check|make-dist)", one) and one != "tools/play examples"]
-        self.assertEqual(len(commands), 8)
+        self.assertEqual(len(commands), 9)
         with tempfile.TemporaryDirectory() as folder:
             with_folders(folder)
             for command in commands:
