@@ -178,7 +178,7 @@ class Check(InFolder):
 
     def test_small_histories_as_all_orders_have_it(self):
         rng, counts = random.Random(1), {}
-        for _ in range(400):
+        for _ in range(200):
             history = small_history(rng)
             facts = dependencies.Facts(observed.of_edn(text_of(history)))
             if facts.faults:
@@ -189,7 +189,7 @@ class Check(InFolder):
                 came = anomalies.check_facts(facts, model)
                 self.assertEqual((came.fits, bool(came.found)), (wanted, not wanted), (history, model))
                 counts[model, wanted] = counts.get((model, wanted), 0) + 1
-        self.assertGreater(min(counts.values()), 30)
+        self.assertGreater(min(counts.values()), 10)
 
     def test_what_fits_a_model_fits_those_before_it(self):
         rng = random.Random(2)

@@ -50,7 +50,7 @@ WRONG = [
     ("ticks 10001", '"10001": wants a number of ticks to 10000', "ticks N"),
     ("threads 33", '"33": wants a number of threads from 1 to 32', "threads N"),
     ("pump 2", '"2": wants a site below 2', PUMP_FORM),
-    ("pump", 'behind "pump": wants SITE', PUMP_FORM),
+    ("pump", 'behind "pump": wants all or until or SITE', PUMP_FORM),
     ("pump 0 1", '"1": wants nothing there', PUMP_FORM),
 ]
 

@@ -1,5 +1,6 @@
 """tools/play --shell takes lines one by one, says what comes of each, and takes them back."""
 
+import contextlib
 import io
 import os
 import subprocess
@@ -64,7 +65,8 @@ class Shell(InFolder):
             self.assertEqual(run_tool("play", "--shell", SLOW, "--packets")[0], 1)
 
     def test_names_are_completed(self):
-        one = shell.Shell([*BEGUN[:-2], 'bob: write 10:77 "s"'])
+        with contextlib.redirect_stdout(io.StringIO()):
+            one = shell.Shell([*BEGUN[:-2], 'bob: write 10:77 "s"'])
         self.assertLessEqual({"ann:", "bob:", "deliver", "undo", "settle"}, set(one.words_for("")))
         self.assertLessEqual({"start", "write", "again", "10:77"}, set(one.words_for("bob: ")))
         self.assertEqual(one.words_for("bob: write "), ["10:77", "10:"])

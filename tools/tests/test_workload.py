@@ -47,20 +47,19 @@ class Workload(InFolder):
         for kind in workloads.KINDS:
             for form in FORMS:
                 with self.subTest(kind=kind, form=form):
-                    maker, made = maker_of(kind, transactions=60, **form)
+                    maker, made = maker_of(kind, transactions=30, **form)
                     self.assertEqual(readings.read(scripts.text_of(made).encode()), made)
                     self.assertEqual(model.played(made, Counter()).text(), maker.run.text())
-                    again = workloads.Maker(workloads.Asked(kind, transactions=60, seed=1, **form)).made()
-                    self.assertNotEqual(again, made)
+            self.assertNotEqual(maker_of(kind, transactions=30, seed=1)[1], maker_of(kind, transactions=30)[1])
 
     def test_transactions_end_and_come_to_all_sites(self):
         for kind in workloads.KINDS:
             for form in FORMS:
                 with self.subTest(kind=kind, form=form):
-                    maker, _ = maker_of(kind, transactions=100, seed=5, **form)
+                    maker, _ = maker_of(kind, transactions=60, seed=5, **form)
                     counts = maker.counts
-                    self.assertGreaterEqual(counts["committed"] + counts["ended"] + counts["aborted"], 90)
-                    self.assertGreaterEqual(counts["committed"], 35)
+                    self.assertGreaterEqual(counts["committed"] + counts["ended"] + counts["aborted"], 54)
+                    self.assertGreaterEqual(counts["committed"], 20)
                     self.assertEqual((maker.open, counts["refused"]), (0, 0))
                     self.assertTrue(maker.is_everywhere())
 
@@ -76,10 +75,10 @@ class Workload(InFolder):
         self.assertGreater(found["write skew"] + found["long fork"], 0)
 
     def test_nobody_finds_money_lost_and_no_more_is_sold_than_there_is(self):
-        maker, _ = maker_of("bank", transactions=300, remote=30, **LOSSY)
-        self.assertGreater(maker.kind.met["added up"], 40)
+        maker, _ = maker_of("bank", transactions=160, remote=30, **LOSSY)
+        self.assertGreater(maker.kind.met["added up"], 20)
         self.assertEqual(maker.kind.met["right"], maker.kind.met["added up"])
-        maker, _ = maker_of("shop", transactions=300, sites=2, clients=8, remote=30)
+        maker, _ = maker_of("shop", transactions=250, sites=2, clients=8, remote=30)
         self.assertGreater(maker.kind.met["sold out"], 0)
         left = [int(update[2].split()[0]) for site in maker.run.sites for tx in site.log.values() for update in tx.updates
                 if update[1][0] // 10 == 1]
