@@ -103,11 +103,6 @@ def of_run(run):
 # ---- of EDN
 
 
-def is_edn(text):
-    """Whether a text is a history in EDN: its first map has a keyword in front."""
-    return text.lstrip(" \t\r\n,[(").startswith("{") and text.lstrip(" \t\r\n,[({").startswith(":")
-
-
 def of_edn(text):
     """The transactions of a history: each invoke with its end, which has what was read."""
     open_at, found = {}, []

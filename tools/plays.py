@@ -23,8 +23,8 @@ PROGRAM = os.path.normpath(os.path.join(TOP, "walter"))
 class Source:
     """A file with a script or a scenario: the scenario, as the tools read it and as it is played."""
 
-    def __init__(self, path):
-        self.name, self.data = ends.name_of(path), ends.bytes_of(path)
+    def __init__(self, path, data=None):
+        self.name, self.data = ends.name_of(path), ends.bytes_of(path) if data is None else data
         strangers.check_scenario(self.name, self.data)
         try:
             self.made = readings.read(self.data) if strangers.is_json(self.data) else None

@@ -9,6 +9,7 @@ import re
 import ends
 
 SITES = re.compile(rb"(?:[ \t\r]*(?:#[^\n]*)?\n)*[ \t]*sites[ \t]+\S+[ \t]+tolerated\b")
+HISTORY = re.compile(rb"(?:[\s,\[(]|;[^\n]*\n)*\{\s*:")
 REPORT = re.compile(r"sites [0-9]+ f [0-9]+ clients [0-9]+\n")
 NEEDED = ("sites", "f", "containers", "clients", "steps")
 IS_EMPTY = "it is empty: wants a script or a scenario"
@@ -29,7 +30,8 @@ def is_script(data):
 
 
 def is_history(data):
-    return data.lstrip(b" \t\r\n,[").startswith(b"{:")
+    """Whether bytes begin as a history in EDN does: with a map that has a keyword in front, behind comments."""
+    return HISTORY.match(data) is not None
 
 
 def is_report(data):

@@ -3,6 +3,7 @@
 import itertools
 import os
 import random
+import subprocess
 import unittest
 
 from played import InFolder, RANDOM, TOP, random_run, run_tool
@@ -211,12 +212,12 @@ class Check(InFolder):
         self.assertEqual(told.splitlines(), [
             "si: doesn't fit (4 committed transactions)",
             "long fork, a cycle of 4 transactions:",
-            "  ann's 0.1.2 read 2:1 as no value, without what bob's 1.1.1 did to it "
+            "  ann's 0.1.2 read 20:1 as no value, without what bob's 1.1.1 did to it "
             "[line 17, stamp 7 at site 0; line 11, stamp 3 at site 1]",
-            '  bob\'s 1.1.2 read 2:1 as "y", with what bob\'s 1.1.1 did to it [line 11, stamp 3 at site 1; line 20, stamp 7 at site 1]',
-            "  bob's 1.1.2 read 1:1 as no value, without what ann's 0.1.1 did to it "
+            '  bob\'s 1.1.2 read 20:1 as "y", with what bob\'s 1.1.1 did to it [line 11, stamp 3 at site 1; line 20, stamp 7 at site 1]',
+            "  bob's 1.1.2 read 10:1 as no value, without what ann's 0.1.1 did to it "
             "[line 19, stamp 6 at site 1; line 9, stamp 3 at site 0]",
-            '  ann\'s 0.1.2 read 1:1 as "x", with what ann\'s 0.1.1 did to it [line 9, stamp 3 at site 0; line 16, stamp 6 at site 0]',
+            '  ann\'s 0.1.2 read 10:1 as "x", with what ann\'s 0.1.1 did to it [line 9, stamp 3 at site 0; line 16, stamp 6 at site 0]',
         ])
 
     def test_the_history_of_a_run_tells_the_same(self):
@@ -224,7 +225,14 @@ class Check(InFolder):
         self.assertEqual(run_tool("check", history)[0], 0)
         status, told, _ = run_tool("check", history, "--model", "si")
         self.assertEqual((status, told.splitlines()[1]), (1, "long fork, a cycle of 4 transactions:"))
-        self.assertIn("the transaction 4 of process 0 read 2:1 as no value", told)
+        self.assertIn("the transaction 4 of process 0 read 20:1 as no value", told)
+
+    def test_a_history_may_come_by_standard_input(self):
+        text = "; a comment\n" + text_of(["0 ok r x nil, w x 1", "1 ok r x nil, w x 2"])
+        ended = subprocess.run([os.path.join(TOP, "tools", "check"), "-"], input=text, capture_output=True, text=True)
+        self.assertEqual((ended.returncode, ended.stderr, ended.stdout.splitlines()[1]), (1, "", "lost update, a cycle of 2 transactions:"))
+        ended = subprocess.run([os.path.join(TOP, "tools", "check"), "-"], input=text.replace(":w", ":cas"), capture_output=True, text=True)
+        self.assertEqual((ended.returncode, ended.stderr[:52]), (2, "check: standard input, line 2: wants an operation as"))
 
     def report(self, script):
         return self.write("report", run_tool("play", script, "--report")[1])

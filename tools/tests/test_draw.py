@@ -223,7 +223,7 @@ class Draw(unittest.TestCase):
         with tempfile.TemporaryDirectory() as folder:
             other = os.path.join(folder, "other.script")
             with open(other, "w", encoding="utf-8") as file:
-                file.write(file_text(slow).replace('ann: write 1:5 "t"', 'ann: write 1:6 "t"'))
+                file.write(file_text(slow).replace('ann: write 10:5 "t"', 'ann: write 10:6 "t"'))
             status, drawn, wrong = run_tool("draw", "--compare", slow, other)
             self.assertEqual((status, wrong), (0, ""))
             both = Drawn(drawn)

@@ -196,14 +196,14 @@ class Explain(unittest.TestCase):
 
     def test_what_the_examples_show(self):
         for name, line in [
-            ("long_fork", "ann read 2:1 -> no value"),
-            ("slow_commit", "ann commit -> aborted: 1:5 is locked by 1.1.1"),
-            ("crossed_slow_commits", "0 <- 3 packet 1 PREPARE 1 of 3.1.1 for 1:1: votes NO, it is over"),
-            ("locks_outlive_a_stop", "bob commit -> aborted: 1:1 is locked by 2.1.1"),
+            ("long_fork", "ann read 20:1 -> no value"),
+            ("slow_commit", "ann commit -> aborted: 10:5 is locked by 1.1.1"),
+            ("crossed_slow_commits", "0 <- 3 packet 1 PREPARE 1 of 3.1.1 for 10:1: votes NO, it is over"),
+            ("locks_outlive_a_stop", "bob commit -> aborted: 10:1 is locked by 2.1.1"),
             ("durable_and_visible", "0 <- 2 packet 1 ACK 1: durable mark 1"),
             ("stop_at_the_gate", "restart 0 -> site 0 is up in epoch 2; found Own 0@1"),
-            ("two_writers", "bob commit -> aborted: 1:5 was modified by 0@1"),
-            ("pumped_link", "pump 1: tick 1 -> to 0: PREPARE 1 of 1.1.1 for 1:5 as packet 3"),
+            ("two_writers", "bob commit -> aborted: 10:5 was modified by 0@1"),
+            ("pumped_link", "pump 1: tick 1 -> to 0: PREPARE 1 of 1.1.1 for 10:5 as packet 3"),
             ("pumped_link", "lost by the link: 1 <- 0 packet 1 VOTE 1 YES"),
         ]:
             self.assertIn(line, self.explained(example_run(os.path.join(TOP, "examples", name + ".json"))))
@@ -279,14 +279,14 @@ class Explain(unittest.TestCase):
             ("deliver to 0 from 1 packet 1 #", "#", "bob to be played next|no such entry|to be played next"),
             ("bob: commit\n", "bob: abort\n", "the next call of bob"),
             ("client bob at 1", "client bob at 1\nclient cat at 0", "the sites and the clients"),
-            ('bob: write 1:5 "s"', 'bob: write 1:5 "S"', "of what bob has done since its start"),
-            ('bob: write 1:5 "s"', 'bob: write 1:6 "s"', "of what bob has done since its start"),
+            ('bob: write 10:5 "s"', 'bob: write 10:5 "S"', "of what bob has done since its start"),
+            ('bob: write 10:5 "s"', 'bob: write 10:6 "s"', "of what bob has done since its start"),
         ]:
             self.assertIn(old, script)
             with self.assertRaisesRegex(reports.Wrong, wanted):
                 runs.Run(runs.Scenario(script.replace(old, new)), reports.read(text))
         with self.assertRaisesRegex(reports.Wrong, "line 3: wants an answer to bob: read"):
-            runs.Run(runs.Scenario(script.replace('bob: write 1:5 "s"', "bob: read 1:5")), reports.read(without_trace(text)))
+            runs.Run(runs.Scenario(script.replace('bob: write 10:5 "s"', "bob: read 10:5")), reports.read(without_trace(text)))
 
     def test_records_that_are_of_another_run_are_refused(self):
         """The trace of a lost commit with a record in flight, of which the restart finds another, and so on."""
@@ -382,8 +382,8 @@ ann: commit
     def test_a_history_of_sets(self):
         run = example_run(os.path.join(TOP, "examples", "friend_list.json"))
         lines = histories.History(run, histories.SETS).text().splitlines()
-        self.assertEqual(lines[0], '{:type :invoke, :f :sets, :value [[:add "3:1" 5] [:add "3:1" 7]], :process 0, :index 0}')
-        reads = '{:type :invoke, :f :sets, :value [[:r "3:1" nil] [:count "3:1" 5 nil]], :process 0, :index 4}'
+        self.assertEqual(lines[0], '{:type :invoke, :f :sets, :value [[:add "30:1" 5] [:add "30:1" 7]], :process 0, :index 0}')
+        reads = '{:type :invoke, :f :sets, :value [[:r "30:1" nil] [:count "30:1" 5 nil]], :process 0, :index 4}'
         self.assertEqual(lines[-2], reads)
         self.assertEqual(histories.History(run).text(), "")
         self.assertEqual(edn.edn({7: 2, 9: -1}), "{7 2, 9 -1}")
@@ -456,11 +456,11 @@ ann: commit
             same = subprocess.run(tool + [report, "--expect", wanted], capture_output=True, text=True)
             self.assertEqual((same.returncode, same.stdout, same.stderr), (0, "", ""))
             with open(wanted, "w", encoding="utf-8") as file:
-                file.write(told.stdout.replace("locks 1:5", "locks 1:6"))
+                file.write(told.stdout.replace("locks 10:5", "locks 10:6"))
             other = subprocess.run(tool + [report, "--expect", wanted], capture_output=True, text=True)
             self.assertEqual((other.returncode, other.stdout), (1, ""))
             self.assertTrue(other.stderr.startswith(f"explain: {wanted}: line 6 differs\nwanted: 0 <- 1 packet 1 PREPARE"))
-        for word, first in [("--history", '{:type :invoke, :f :txn, :value [[:w "1:5" "s"]], :process 1, :index 0}'),
+        for word, first in [("--history", '{:type :invoke, :f :txn, :value [[:w "10:5" "s"]], :process 1, :index 0}'),
                             ("--shiviz", clocks.EXPRESSION)]:
             made = subprocess.run(tool + [word], input=text, capture_output=True, text=True)
             self.assertEqual((made.returncode, made.stdout.split("\n")[0]), (0, first))

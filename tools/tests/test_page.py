@@ -108,9 +108,9 @@ class Page(unittest.TestCase):
         """Behind the last entry that a site has in a slow commit: the lock stays where the commit never came."""
         run = watched(SLOW)
         lines = {moment.site: dict(run.held[moment]) for moment in run.moments}
-        self.assertEqual(lines[0], {"stands": "up", "committed": "nothing", "holds": "nothing", "locks": "1:5 for 1.1.1",
+        self.assertEqual(lines[0], {"stands": "up", "committed": "nothing", "holds": "nothing", "locks": "10:5 for 1.1.1",
                                     "peers": "1 has said: received 0, committed 0, durable there 0"})
-        self.assertEqual(lines[1], {"stands": "up", "committed": "1@1", "holds": '1:5 "s"', "marks": "durable 0, visible 0",
+        self.assertEqual(lines[1], {"stands": "up", "committed": "1@1", "holds": '10:5 "s"', "marks": "durable 0, visible 0",
                                     "peers": "0 has said: received 0, committed 0, durable there 0"})
         self.assertEqual([dict(one)["stands"] for one in run.begin], ["down", "down"])
         stop = watched(os.path.join(TOP, "examples", "stop_at_the_gate.json"))
@@ -146,8 +146,8 @@ class Page(unittest.TestCase):
         names = transactions.Names(run)
         told = {words.moment_line(run.scenario, one): names.of_moment(one) for one in run.moments}
         of_ann = ["ann commit -> deciding 2.1.1; the slow commit 1 begins", "ann level 2.1.1 -> level 0: not committed",
-                  "0 <- 2 packet 1 PREPARE 1 of 2.1.1 for 1:1: locks 1:1, votes YES",
-                  "2 <- 1 packet 1 VOTE 1 NO, 2:1 is locked by 3.1.1: the slow commit 1 has ended",
+                  "0 <- 2 packet 1 PREPARE 1 of 2.1.1 for 10:1: locks 10:1, votes YES",
+                  "2 <- 1 packet 1 VOTE 1 NO, 20:1 is locked by 3.1.1: the slow commit 1 has ended",
                   "0 <- 2 packet 2 RELEASE 1: the slow commit 1 of 2 is over here"]
         self.assertEqual({told[line] for line in of_ann}, {(2, 1, 1)})
         self.assertEqual(names.of_moment(run.moments[0]), None)

@@ -94,7 +94,7 @@ class Play(InFolder):
     def test_lines_that_are_expected(self):
         expect = SLOW.replace(".script", ".expect")
         self.assertEqual(run_tool("play", SLOW, "--expect", expect), (0, "", ""))
-        other = self.write("other.expect", file_text(expect).replace("locks 1:5", "locks 1:6"))
+        other = self.write("other.expect", file_text(expect).replace("locks 10:5", "locks 10:6"))
         status, told, wrong = run_tool("play", SLOW, "--expect", other)
         self.assertEqual((status, told), (1, ""))
         self.assertTrue(wrong.startswith(f"play: {SLOW}: line 6 differs\nwanted: 0 <- 1 packet 1 PREPARE"), wrong)

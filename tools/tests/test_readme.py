@@ -52,9 +52,9 @@ class Readme(unittest.TestCase):
 
     def check_first_script(self, lines):
         """It has a slow commit, a lost packet and its repair, and comes to what its comments say."""
-        for line in ["bob commit -> deciding 1.1.1", "tick 1 -> to 0: PREPARE 1 of 1.1.1 for 1:5 as packet 2",
-                     "1 <- 0 packet 1 VOTE 1 YES: committed 1@1", 'ann read 1:5 -> "s"', "bob level 1.1.1 -> level 5: visible",
-                     "never delivered: 0 <- 1 packet 1 PREPARE 1 of 1.1.1 for 1:5"]:
+        for line in ["bob commit -> deciding 1.1.1", "tick 1 -> to 0: PREPARE 1 of 1.1.1 for 10:5 as packet 2",
+                     "1 <- 0 packet 1 VOTE 1 YES: committed 1@1", 'ann read 10:5 -> "s"', "bob level 1.1.1 -> level 5: visible",
+                     "never delivered: 0 <- 1 packet 1 PREPARE 1 of 1.1.1 for 10:5"]:
             self.assertIn(line, lines.splitlines())
 
     def test_its_words_are_those_of_the_wrapper(self):

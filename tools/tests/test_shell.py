@@ -57,7 +57,7 @@ class Shell(InFolder):
 
     def test_a_script_stands_in_front(self):
         told, _ = self.typed("ann: start", words=[SLOW])
-        self.assertEqual(told[:2], ["bob start -> started 1.1.1", 'bob write 1:5 "s" -> done'])
+        self.assertEqual(told[:2], ["bob start -> started 1.1.1", 'bob write 10:5 "s" -> done'])
         self.assertEqual(told[-1], "ann start -> started 0.1.2")
         with mock.patch.object(sys, "stdin", io.StringIO("")):
             self.assertEqual(run_tool("play", "--shell", self.write("a.script", "fly\n"))[0], 2)

@@ -62,7 +62,7 @@ class Vary(unittest.TestCase):
             run = varied.Varied(script, 1, link)
             run.play()
             self.assertGreaterEqual(steps_of(run, "tick"), ticks)
-            self.assertEqual(run.answers()[-1][1], "bob setread 3:1 -> {7: 1}")
+            self.assertEqual(run.answers()[-1][1], "bob setread 30:1 -> {7: 1}")
         twice = varied.Varied(script, 1, varied.Link(repeat=1000))
         twice.play()
         delivered = [tuple(step) for step in twice.steps if step[0] == "deliver"]
@@ -125,13 +125,13 @@ class Vary(unittest.TestCase):
         with open(path, "w", encoding="utf-8") as file:
             file.write(more)
         status, told, _ = run_tool("vary", path, "--stops", "1", *ONE, "--seeds", "0..30",
-                                   "--check", 'grep -q "bob setread 3:1 -> {7: 1}"')
+                                   "--check", 'grep -q "bob setread 30:1 -> {7: 1}"')
         self.assertEqual(status, 1)
         script = scripts.read_script(told)
         self.assertNotIn("dan", script.numbers)
         self.assertIn("came:   another status", told)
         run = smaller.played(script, script.items)
-        self.assertNotIn("bob setread 3:1 -> {7: 1}", [words for _, words in run.answers()])
+        self.assertNotIn("bob setread 30:1 -> {7: 1}", [words for _, words in run.answers()])
 
     def test_areas_that_have_no_part_in_it_are_left_out(self):
         script = scripts.read_script(file_text(os.path.join(EXAMPLES, "packed_on_restart.script")))
