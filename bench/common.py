@@ -5,9 +5,12 @@
 Each goes by no chance, and has some thousands to some ten thousands of calls, as many as fit into a scenario.
 """
 
+import functools
+
 import growth
 import kinds
 import loads
+import workloads
 from generator import COMMIT, START
 from kinds import CONTAINERS, REGULAR, Kind, Maker, at_one_site, read_of
 from spelled import frame, write
@@ -103,7 +106,14 @@ KINDS = {
     "load": Kind(lambda: loads.made(7, loads.MOST_CALLS), 2, 1.8),
     "no-steps": Kind(no_steps, 1.5, 1.5),
 }
+# What people do, at three sites and at eight. They are made by playing them in the model, which takes some seconds each.
+WORKLOADS = {
+    "social": Kind(functools.partial(workloads.made, "social", 3, 5_000), 2, 1.8),
+    "social-8": Kind(functools.partial(workloads.made, "social", 8, 3_000, clients=16), 2, 1.8),
+    "shop": Kind(functools.partial(workloads.made, "shop", 3, 5_000), 2, 1.8),
+    "shop-8": Kind(functools.partial(workloads.made, "shop", 8, 3_000, clients=16), 2, 1.8),
+}
 
 
 if __name__ == "__main__":
-    kinds.main(KINDS)
+    kinds.main({**KINDS, **WORKLOADS})

@@ -130,11 +130,11 @@ NO_KEY = "the program refuses the key {}: no scenario has it"
 
 
 def built():
-    """The program, once `walter`, which proves and builds it first where that isn't done yet, has played a scenario."""
-    walter = [os.path.join(TOP, "walter"), "play"]
-    if subprocess.run(walter, input=json.dumps(EMPTY), stdout=subprocess.DEVNULL, text=True).returncode != 0:
+    """The program, by the path that `walter` tells, which proves and builds it first where that isn't done yet."""
+    found = subprocess.run([os.path.join(TOP, "walter"), "--where"], stdout=subprocess.PIPE, text=True)
+    if found.returncode != 0:
         sys.exit("the program could not be built")
-    return os.path.join(TOP, "crates", "walter", "out", "walter")
+    return found.stdout.rstrip("\n")
 
 
 def knows(program, key):

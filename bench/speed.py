@@ -33,8 +33,8 @@ from measured import events_of, fault_of, measured, microseconds, run_of
 RUNS = 7
 # Of less than so many seconds a ratio says little.
 LEAST_SECONDS = 0.02
-KINDS = {**kinds.KINDS, **common.KINDS}
-GROUPS = {"all": kinds.KINDS, "common": common.KINDS}
+KINDS = {**kinds.KINDS, **common.KINDS, **common.WORKLOADS}
+GROUPS = {"all": kinds.KINDS, "common": common.KINDS, "workloads": common.WORKLOADS}
 LINE = "{:<16} {:>7} | {:>8} {:>8} {:>6} | {:>8} {:>8} {:>6} | {:>6} {:>6} {:>6} | {}"
 HEAD = [LINE.format("", "", *(side for name in ("program", "other") for side in (name, "", "")), "ratios", "", "", ""),
         LINE.format("kind", "events", *("least s", "median s", "MB") * 2, "least", "median", "memory", "limit")]
@@ -169,7 +169,7 @@ def main():
     parser.add_argument("--program", metavar="PATH", help="the program, with its words if it takes some; without it that of this "
                         "repository, which ./walter proves and builds first where that isn't done yet")
     parser.add_argument("--kinds", type=kinds_named, metavar="NAMES", help="play the scenarios of these kinds, joined by commas: "
-                        f"of {', '.join(KINDS)}; all stands for those of kinds.py, and common for those of common.py")
+                        f"of {', '.join(KINDS)}; all stands for those of kinds.py, common and workloads for those of common.py")
     parser.add_argument("--seed", type=int, default=7, metavar="N", help="the seed of the load; 7 without it")
     parser.add_argument("--calls", type=int, default=20_000, metavar="M", help="how many calls it has; 20000 without it")
     parser.add_argument("--runs", type=int, default=RUNS, metavar="K", help=f"how often each runs; {RUNS} without it")

@@ -25,18 +25,18 @@ class Parser(argparse.ArgumentParser):
         super().__init__(description=text, formatter_class=argparse.RawDescriptionHelpFormatter, **more)
 
     def error(self, message):
-        raise End(NOT_AS_ASKED, f"{message}\n{self.format_usage().rstrip()}")
+        raise End(NOT_AS_ASKED, f"{message}; --help tells the words")
 
     def _print_message(self, message, file=None):
         if message:
             write(message)
 
 
-def number_to(most):
+def number_to(most, least=0):
     """What reads a word that is a whole number, this at most."""
     def number(text):
-        if not re.fullmatch("[0-9]{1,20}", text) or int(text) > most:
-            raise argparse.ArgumentTypeError(f"{text!r}: wants a whole number to {most}")
+        if not re.fullmatch("[0-9]{1,20}", text) or not least <= int(text) <= most:
+            raise argparse.ArgumentTypeError(f"{text!r}: wants a whole number {f'from {least} ' if least else ''}to {most}")
         return int(text)
 
     return number

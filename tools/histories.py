@@ -1,7 +1,7 @@
 """The transactions of a run as a history in EDN, in the form that Elle's checker of registers and transactions reads.
 
-A transaction is an invoke where it starts and an ok, a fail or an info where its client is told its end; the reads of an ok
-have their values. Elle knows no sets that count: what was done to these is a history of its own kind, which it doesn't read.
+A transaction is an invoke where it starts and an ok, a fail or an info where its client is told its end, or is told none; the reads
+of an ok and of an info have their values. Elle knows no sets that count: what was done to these is a history of its own kind, which it doesn't read.
 """
 
 import struct
@@ -10,6 +10,7 @@ from collections import namedtuple
 import reports
 import scripts
 import transactions
+from edn import Keyword, edn
 
 KINDS = {"committed": "ok", "ended": "ok", "aborted": "fail", "unsure": "info"}
 # What a history is of: the word of its transactions, and of each call that it tells the word in the history.
@@ -23,34 +24,6 @@ class NotDistinct(Exception):
     """An object to which one value is written twice."""
 
 
-class Keyword(str):
-    """A word that names itself, with a colon in EDN."""
-
-
-def edn(value):
-    """A value in EDN."""
-    if value is None:
-        return "nil"
-    if isinstance(value, Keyword):
-        return ":" + value
-    if isinstance(value, bytes):
-        return '"' + "".join(map(letter, value)) + '"'
-    if isinstance(value, str):
-        return edn(value.encode())
-    if isinstance(value, dict):
-        return "{" + ", ".join(f"{edn(key)} {edn(one)}" for key, one in value.items()) + "}"
-    if isinstance(value, (list, tuple)):
-        return "[" + " ".join(map(edn, value)) + "]"
-    return str(value)
-
-
-def letter(byte):
-    """A byte as a letter of a text, so that no two values have one text."""
-    if byte in b'"\\':
-        return "\\" + chr(byte)
-    return chr(byte) if 0x20 <= byte < 0x7F else f"\\u{byte:04x}"
-
-
 class Transaction:
     """A transaction of a client that is told as this process: what it does, each with the object and the values."""
 
@@ -58,8 +31,8 @@ class Transaction:
         self.name, self.process, self.does = name, process, []
 
     def operation(self, kind, word, index):
-        """A read has its value where the transaction is committed."""
-        does = [[Keyword(what), *given, *([answer if kind == "ok" else None] if what in ANSWERED else [])]
+        """A read has its value where the client was told no end too: what it was answered stands."""
+        does = [[Keyword(what), *given, *([answer if kind in ("ok", "info") else None] if what in ANSWERED else [])]
                 for what, given, answer in self.does]
         return {Keyword("type"): Keyword(kind), Keyword("f"): Keyword(word), Keyword("value"): does,
                 Keyword("process"): self.process, Keyword("index"): index}

@@ -73,10 +73,10 @@ class Watched(runs.Run):
         """What a site holds, as pairs of a name and words."""
         site, holding = self.sites[me], self.holdings[me]
         flight = f", with {words.record(site.flight, me)} in flight" if site.flight else ""
-        waits = [words.pair((one, number)) for one, number, _ in site.log if number > site.committed[one]]
+        waits = [words.version((one, number)) for one, number, _ in site.log if number > site.committed[one]]
         told = [
             ("stands", "up" if self.up[me] else "down" + flight),
-            ("committed", last_of(list(map(words.pair, holding.commits)), MOST_COMMITS)),
+            ("committed", last_of(list(map(words.version, holding.commits)), MOST_COMMITS)),
             ("received, not committed", last_of(waits, MOST_COMMITS) if waits else None),
             ("holds", last_of(holding.objects(), MOST_OBJECTS)),
             ("marks", f"durable {site.durable()}, visible {self.visible(me)}" if site.committed[me] else None),

@@ -6,6 +6,7 @@ import ends
 import reports
 import runs
 import scripts
+import strangers
 
 LONGEST = 120
 A_SUMMARY = ": it is the summary of a load, which has no replies and no trace: `bench/model.py load .. --scenario` writes its scenario"
@@ -17,6 +18,7 @@ def wrong_in(path, text):
 
 def scenario_of(path):
     text = ends.text_of(path)
+    strangers.check_scenario(ends.name_of(path), text.encode())
     try:
         return runs.Scenario(text)
     except scripts.Wrong as wrong:
@@ -39,6 +41,8 @@ def read_run(scenario, report, make=runs.Run, needs_trace=False, is_threaded=Fal
     made, text = scenario_of(scenario), ends.text_of(report)
     if is_threaded:
         made.forget_steps()
+    if strangers.is_json(text.encode()) or strangers.is_script(text.encode()):
+        raise wrong_in(report, ": this is no report, but what one may be of: the script or the scenario stands first, and its report behind")
     if reports.is_summary(text):
         raise wrong_in(report, A_SUMMARY)
     try:

@@ -12,6 +12,7 @@ import scripts
 
 sys.path.append(os.path.join(os.path.dirname(os.path.abspath(__file__)), "..", "bench"))
 import model
+import pumps
 from spelled import STARTED
 
 # How many steps one `settle` may become.
@@ -41,7 +42,7 @@ class Course:
         self.run = model.Run({**script.head(), "clients": [[site, ""] for site, _ in script.clients]}, Counter())
         # The bytes of a `level last` are known only when its turn comes.
         self.run.calls = [model.calls_of(sent, Counter()) for sent in self.sent]
-        self.ends, self.place, self.bound = [0] * len(self.sent), 0, 0
+        self.ends, self.place, self.bound, self.bound_of = [0] * len(self.sent), 0, 0, ""
         self.steps, self.places, self.faults = [], [], []
         self.came, self.lost = {lane: {} for lane in self.run.arrived}, {lane: {} for lane in self.run.arrived}
 
@@ -69,6 +70,8 @@ class Course:
             self.lose(*item.fields)
         elif item.word == "advance":
             self.advance_to(*item.fields)
+        elif item.word == "pump":
+            self.pump(*item.fields)
         else:
             self.settle(*item.fields)
 
@@ -156,12 +159,12 @@ class Course:
         if not site.up:
             return f"site {here} is down"
         if number > site.got[there]:
-            return f"{there}:{number} isn't received there"
+            return f"{there}@{number} isn't received there"
         if number > site.durable_at[there]:
-            return f"{there}:{number} isn't durable by the word of site {there}"
+            return f"{there}@{number} isn't durable by the word of site {there}"
         for k, start in enumerate(site.log[there, number].start):
             if start > site.committed[k]:
-                return f"its cause {k}:{site.committed[k] + 1} isn't committed there"
+                return f"its cause {k}@{site.committed[k] + 1} isn't committed there"
         return None
 
     def advance_all(self, here):
@@ -182,11 +185,28 @@ class Course:
             why = dict.fromkeys(self.wanting(here, there) for there in site.peers)
             raise scripts.Unfit(f"to {here}", f"something to commit at site {here}: " + "; ".join(why))
 
+    # Pumps of all sites
+
+    def pump(self, is_until_idle):
+        """Pumps each site, or by turns each for which there is something else to do than a tick, until there is none."""
+        self.bound, self.bound_of = len(self.steps) + MOST_SETTLING, "idle"
+        if not is_until_idle:
+            for site in self.run.sites:
+                self.step("pump", site.me)
+            return
+        again = True
+        while again:
+            again = False
+            for site in self.run.sites:
+                if pumps.has_work(self.run, site.me):
+                    self.settling("pump", site.me)
+                    again = True
+
     # What comes of all that is under way
 
     def settle(self, here=None):
         sites = range(len(self.run.sites)) if here is None else [here]
-        self.bound = len(self.steps) + MOST_SETTLING
+        self.bound, self.bound_of = len(self.steps) + MOST_SETTLING, "settle"
         self.pass_on(sites)
         before = None
         while here is None and before != self.taken():
@@ -198,7 +218,7 @@ class Course:
 
     def settling(self, *made):
         if len(self.steps) >= self.bound:
-            raise scripts.Unfit("settle", f"what comes to its end within {MOST_SETTLING:,} steps")
+            raise scripts.Unfit(self.bound_of, f"what comes to its end within {MOST_SETTLING:,} steps")
         self.step(*made)
 
     def taken(self):

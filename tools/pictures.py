@@ -41,6 +41,7 @@ text {{ font: {FONT}px "DejaVu Sans Mono", "Liberation Mono", monospace; fill: #
 .title {{ font-weight: bold }}
 .row {{ fill: #fff }}
 .faint {{ fill: #f1f1f1 }}
+.differs {{ fill: #fbdcc4 }}
 .column, .cap {{ stroke: #111; stroke-width: 1.2; fill: none }}
 .none {{ stroke-width: 2; fill: none }}
 .flight {{ stroke-width: 1.6 }}
@@ -96,10 +97,10 @@ def kind_of(moment):
 
 
 class Picture:
-    """The moments of a run whose stamps are from one to another."""
+    """The moments of a run whose stamps are from one to another. Those that are marked differ from another run."""
 
-    def __init__(self, run, first=None, last=None, title=None):
-        self.run, self.all = run, in_order(run)
+    def __init__(self, run, first=None, last=None, title=None, marked=frozenset()):
+        self.run, self.all, self.marked = run, in_order(run), marked
         self.before = [one for one in self.all if first is not None and one.entry.stamp < first]
         self.moments = [one for one in self.all[len(self.before) :] if last is None or one.entry.stamp <= last]
         self.check(first, last)
@@ -193,8 +194,9 @@ class Picture:
 
     def background(self):
         right = self.words_at() + self.longest * LETTER + 4
-        return [tag("rect", kind="row" if row % 2 else "row faint", x=MARGIN, y=self.top + ROW * row, width=right - MARGIN,
-                    height=ROW, data_row=row) for row in range(len(self.moments))]
+        return [tag("rect", kind="row" + (" differs" if moment in self.marked else "" if row % 2 else " faint"), x=MARGIN,
+                    y=self.top + ROW * row, width=right - MARGIN, height=ROW, data_row=row)
+                for row, moment in enumerate(self.moments)]
 
     def heading(self):
         drawn = [label(MARGIN, MARGIN + FONT + SHADE * place, text, kind="title") for place, text in enumerate(self.title)]
@@ -293,12 +295,14 @@ class Picture:
         title = f"{self.said(moment, True)}\n{moment.entry.line}"
         return tag("g", drawn, title, kind="entry", data_row=self.rows[moment])
 
-    def svg(self):
+    def svg(self, **more):
+        """The picture; as a part of another one where it has a place there."""
         parts = [self.background(), self.heading(), self.columns(), [self.bar(lock, slot) for lock, slot in self.bars],
                  self.stubs(), [self.arrow(packet, came) for packet, came in self.deliveries()],
                  [self.entry(moment) for moment in self.moments], self.legend.parts(self.bottom + 2 * ROW)]
         body = "\n".join(part for some in parts for part in some)
         size = f'width="{self.width:.0f}" height="{self.height:.0f}" viewBox="0 0 {self.width:.0f} {self.height:.0f}"'
+        size += "".join(f' {key}="{value:.0f}"' for key, value in more.items())
         return (f'<svg xmlns="http://www.w3.org/2000/svg" {size}>\n<style>{STYLE}</style>\n'
                 f'<rect width="100%" height="100%" fill="#fff"/>\n{body}\n</svg>\n')
 
@@ -327,6 +331,8 @@ class Legend:
             ("taken" in came, lambda x, y: arrow_of(x, y, "taken"), "a packet that is taken"),
             (came - {"taken"}, lambda x, y: arrow_of(x, y, "passed"), "a packet that changes nothing"),
             (lost, lambda x, y: stub_of(x, y, "propagate"), "a packet that never came"),
+            (self.picture.marked, lambda x, y: tag("rect", kind="differs", x=x - 12, y=y - 7, width=24, height=14),
+             "an entry that the other run hasn't"),
         ]
         return [(shape, text) for occurs, shape, text in marks if occurs]
 
@@ -353,7 +359,7 @@ class Legend:
         """A transaction, with its client, and its version where it was committed."""
         client = self.picture.run.scenario.names[self.picture.run.sessions.started[name].client]
         version = self.picture.names.versions.get(name)
-        return f"{words.name(name)} of {client}" + (f": committed {words.pair(version)}" if version else "")
+        return f"{words.name(name)} of {client}" + (f": committed {words.version(version)}" if version else "")
 
     def parts(self, top):
         drawn = []

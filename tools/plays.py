@@ -9,6 +9,7 @@ import ends
 import reports
 import runs
 import scripts
+import strangers
 import words
 
 TOP = os.path.join(os.path.dirname(os.path.abspath(__file__)), "..")
@@ -19,20 +20,17 @@ import readings
 PROGRAM = os.path.normpath(os.path.join(TOP, "walter"))
 
 
-def is_json(data):
-    return data.lstrip()[:1] in (b"{", b"[")
-
-
 class Source:
     """A file with a script or a scenario: the scenario, as the tools read it and as it is played."""
 
-    def __init__(self, path):
-        self.name, self.data = ends.name_of(path), ends.bytes_of(path)
+    def __init__(self, path, data=None):
+        self.name, self.data = ends.name_of(path), ends.bytes_of(path) if data is None else data
+        strangers.check_scenario(self.name, self.data)
         try:
-            self.made = readings.read(self.data) if is_json(self.data) else None
+            self.made = readings.read(self.data) if strangers.is_json(self.data) else None
             self.scenario = runs.Scenario(scripts.decoded(self.data))
         except readings.Refused as refused:
-            raise ends.End(ends.NO_SCENARIO, f"{self.name}: {refused}") from None
+            raise ends.End(ends.NO_SCENARIO, f"{self.name}: {strangers.refusal(self.data, refused)}") from None
         except scripts.Wrong as wrong:
             raise ends.End(ends.NO_SCENARIO, wrong.in_file(self.name)) from None
         self.made = self.made or self.scenario.script.scenario()
@@ -65,11 +63,13 @@ def take_path(parser, given, name):
 
 
 def built(program):
-    """The program itself, once ./walter, where it is that, has proved and built it."""
+    """The program itself, where ./walter is asked for it, which proves and builds it first where that isn't done yet."""
     if program != PROGRAM:
         return program
-    by_program(program, scripts.text_of({"sites": 1, "f": 0, "containers": [], "clients": [], "steps": []}), False)
-    return os.path.join(TOP, "crates", "walter", "out", "walter")
+    found = subprocess.run([program, "--where"], stdout=subprocess.PIPE, text=True)
+    if found.returncode != 0:
+        raise ends.End(found.returncode, "")
+    return found.stdout.rstrip("\n")
 
 
 def run_of(scenario, report):

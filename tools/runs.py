@@ -85,6 +85,11 @@ class Scenario:
         """A threaded run goes by none of the steps."""
         self.steps, self.places = [], []
 
+    def past_the_link(self):
+        """The lines of a script with a link that deliver without it."""
+        settles = (item.place for item in self.script.items if isinstance(item, scripts.Named) and item.word == "settle")
+        return list(settles) if self.script.link and self.steps else []
+
     def home(self, oid):
         return self.containers.get(oid[0], ("", 0))[1]
 
@@ -115,8 +120,9 @@ class Moment:
 
     def __init__(self, entry):
         self.entry, self.site = entry, entry.site
-        # `name` is the transaction of a call, and `acked` how many commits the sender of an ACK had acknowledged before.
-        self.call = self.packet = self.news = self.name = self.acked = self.wanting = None
+        # `name` is the transaction of a call, `acked` how many commits the sender of an ACK had acknowledged before, and `pump` the
+        # step of the pump that has brought a site up, where a restart finds it up.
+        self.call = self.packet = self.news = self.name = self.acked = self.wanting = self.pump = None
         self.sends, self.is_pumped = [], False
 
 
@@ -442,8 +448,8 @@ class Steps:
         self.run, self.scenario = run, run.scenario
         self.trails = [[moment for moment in run.moments if moment.site == site] for site in range(self.scenario.sites)]
         self.at, self.turns, self.out, self.armed = Counter(), Counter(), Counter(), {}
-        # Which sites are up, what waits for the pump of each, and how many ticks it has made.
-        self.up, self.ticks = set(), Counter()
+        # Which sites are up, what waits for the pump of each, and how many ticks it has made; and which pump brought a site up.
+        self.up, self.ticks, self.brought_up = set(), Counter(), {}
         self.inboxes = [link.Inbox(self.scenario.rates, me, self.peers(me), Counter()) for me in range(self.scenario.sites)]
 
     def peers(self, me):
@@ -487,7 +493,10 @@ class Steps:
             return self.pump(step, where)
         if word == "deliver" and more[1] > self.out[more[0], where]:
             return step._replace(why=f"no such packet was put out: site {more[0]} had put out {self.out[more[0], where]} to it")
-        return step._replace(moment=self.next_of(where, (word, *more), step))
+        moment = self.next_of(where, (word, *more), step)
+        if word == "restart":
+            moment.pump = self.brought_up.get(where)
+        return step._replace(moment=moment)
 
     def line_of(self, place):
         """The line of a step, which an event of a threaded run hasn't."""
@@ -499,6 +508,8 @@ class Steps:
             return step._replace(why=f"site {site} has nothing to do, and its pump has made all of its ticks")
         moment = self.next_of(site, event, step)
         moment.is_pumped = True
+        if event[0] == "restart":
+            self.brought_up[site] = step
         self.ticks[site] += event[0] == "tick"
         return step._replace(moment=moment)
 
@@ -543,6 +554,7 @@ class Steps:
             self.came(moment)
         if reports.goes_down(moment.entry):
             self.up.discard(site)
+            self.brought_up.pop(site, None)
         elif event[0] == "restart" and moment.entry.outcome[0] == "taken":
             self.up.add(site)
         return moment

@@ -36,11 +36,11 @@ ESCAPE = re.compile(r'\\(x[0-9a-fA-F]{2}|["\\n])')
 
 LIMITS = {"B": 1 << 8, "I": 1 << 32, "Q": 1 << 64}
 
-# Of each field that is numbers: how they are packed, what stands between them in a script, and what is wanted there.
+# Of each field that is numbers: how they are packed, what stands between them in a script, what is wanted there, and what each is.
 NUMBERS = {
-    "object": (">IQ", ":", "an object as container:number"),
-    "id": (">Q", " ", "an id, a whole number below 2^64"),
-    "transaction": (">BIQ", ".", "a transaction as site.epoch.number"),
+    "object": (">IQ", ":", "an object as container:number", ("a container", "a number of an object")),
+    "id": (">Q", " ", "an id, a whole number below 2^64", ("an id",)),
+    "transaction": (">BIQ", ".", "a transaction as site.epoch.number", ("a site", "an epoch", "a number of a transaction")),
 }
 STEPS = ("arm", "stop", "restart", "deliver", "advance", "tick", "pump")
 LINK = ("seed", "lose", "repeat", "swap")
@@ -114,8 +114,11 @@ def number(text, least, below, what):
 def value_of(tokens):
     """The bytes of a value: `"text"`, in UTF-8, or `hex` and digits."""
     first = tokens.pop(0) if tokens else ""
-    if first == "hex" and tokens and re.fullmatch(r"([0-9a-fA-F]{2})+", tokens[0]):
-        return bytes.fromhex(tokens.pop(0))
+    if first == "hex":
+        digits = tokens.pop(0) if tokens else ""
+        if not re.fullmatch(r"([0-9a-fA-F]{2})+", digits):
+            raise Unfit(digits, "hex digits, two for each byte")
+        return bytes.fromhex(digits)
     if not re.fullmatch(TEXT, first):
         raise Unfit(first, 'a value as "text" or hex DIGITS')
     pieces = ESCAPE.split(first[1:-1])
@@ -133,15 +136,15 @@ def field_of(kind, tokens):
     if kind == "value":
         value = value_of(tokens)
         return struct.pack(">I", len(value)) + value
-    packed, between, wants = NUMBERS[kind]
+    packed, between, wants, names = NUMBERS[kind]
     word, limits = tokens.pop(0) if tokens else "", [LIMITS[size] for size in packed[1:]]
     parts = word.split(between)
-    if len(parts) != len(limits):
+    if len(parts) != len(limits) or not all(re.fullmatch("[0-9]+", part) for part in parts):
         raise Unfit(word, wants)
-    try:
-        return struct.pack(packed, *(number(part, 0, limit, wants) for part, limit in zip(parts, limits)))
-    except Unfit:
-        raise Unfit(word, wants) from None
+    for part, limit, name in zip(parts, limits, names):
+        if int(part) >= limit:
+            raise Unfit(part, f"{name} below 2^{limit.bit_length() - 1}")
+    return struct.pack(packed, *map(int, parts))
 
 
 def form_of(word):
@@ -176,7 +179,7 @@ def words_of_value(value):
 
 def words_of_field(kind, body):
     """The words of a field with which bytes begin, and what is behind it."""
-    packed, between, _ = NUMBERS.get(kind, (">I", "", ""))
+    packed, between, *_ = NUMBERS.get(kind, (">I", ""))
     size = struct.calcsize(packed)
     numbers, rest = struct.unpack(packed, body[:size]), body[size:]
     if kind == "value":
@@ -234,6 +237,8 @@ class Script:
         self.place = 0
         self.sites = self.tolerated = self.capacity = self.areas = self.room = self.link = self.ticks = self.threads = None
         self.containers, self.arms, self.armed_at = [], [], []
+        # The lines of what stands once in a script: settings by their words, and containers by their numbers.
+        self.once = {}
         self.clients, self.numbers, self.items = [], {}, []
         self.steps, self.places = [], []
 
@@ -269,32 +274,46 @@ class Script:
             # The lines behind a wrong one are read all the same.
             self.sites = self.sites or MOST_SITES
 
+    def take_once(self, word):
+        """A setting stands in one line."""
+        if self.once.setdefault(word, self.place) != self.place:
+            raise Unfit(word, f"{word} once: line {self.once[word]} has it")
+
     def take_capacity(self, size):
+        self.take_once("capacity")
         least = LEAST_OF_TWO if self.areas == 2 else LEAST_CAPACITY
         behind = ", since there are two areas" if self.areas == 2 else ""
         self.capacity = number(size, least, MOST_CAPACITY + 1, f"a number of bytes from {least} to {MOST_CAPACITY}{behind}")
 
     def take_areas(self, count):
+        self.take_once("areas")
         most = 1 if self.capacity is not None and self.capacity < LEAST_OF_TWO else 2
         self.areas = number(count, 1, most + 1, f"1 or 2 areas, and 2 only where the capacity is at least {LEAST_OF_TWO}")
 
     def take_room(self, count):
+        self.take_once("room")
         self.room = number(count, 0, MOST_ROOM + 1, f"a number of entries to {MOST_ROOM}")
 
     def take_link(self, seed, *rates):
+        self.take_once("link")
         seed = number(seed, 0, 1 << 64, "a seed below 2^64")
         rates = [number(rate, 0, MOST_RATE + 1, f"of {MOST_RATE} packets so many, to {MOST_RATE}") for rate in rates]
         self.link = dict(zip(LINK, [seed, *rates]))
 
     def take_ticks(self, count):
+        self.take_once("ticks")
         self.ticks = number(count, 0, MOST_TICKS + 1, f"a number of ticks to {MOST_TICKS}")
 
     def take_threads(self, count):
+        self.take_once("threads")
         self.threads = number(count, 1, MOST_THREADS + 1, f"a number of threads from 1 to {MOST_THREADS}")
 
     def take_container(self, which, kind, site):
         least = self.containers[-1][0] + 1 if self.containers else 0
+        if which.isdecimal() and int(which) in self.once:
+            raise Unfit(which, f"another container: line {self.once[int(which)]} has this one")
         number(which, least, 1 << 32, f"a number of a container from {least}, below 2^32")
+        self.once[int(which)] = self.place
         if len(self.containers) == MOST_CONTAINERS:
             raise Unfit(which, f"at most {MOST_CONTAINERS} containers")
         self.containers.append([int(which), "cset" if kind == "set" else kind, self.site(site)])
@@ -346,6 +365,12 @@ class Script:
 
     def take_pump(self, site):
         self.step("pump", self.site(site))
+
+    def take_pump_all(self):
+        self.named("pump", False)
+
+    def take_pump_until_idle(self):
+        self.named("pump", True)
 
     def take_settle(self, site):
         self.named("settle", None if site is None else self.site(site))
@@ -480,6 +505,8 @@ FORMS = {
     "advance SITE from SITE": Script.take_advance,
     "advance to SITE": Script.take_advance_to,
     "tick SITE": Script.take_tick,
+    "pump all": Script.take_pump_all,
+    "pump until idle": Script.take_pump_until_idle,
     "pump SITE": Script.take_pump,
     "settle [SITE]": Script.take_settle,
 }
@@ -634,9 +661,10 @@ def turn_lines(name, frame):
 
 
 def words_of_step(word, *numbers):
-    """The line of a step that isn't a client's turn."""
+    """The line of a step that isn't a client's turn: of the first form that has a place for each of its numbers."""
     given = iter(numbers)
-    return " ".join(str(next(given)) if part.isupper() else part for part in FORMS_OF[word][0].parts)
+    parts = next(form.parts for form in FORMS_OF[word] if sum(part.isupper() for part in form.parts) == len(numbers))
+    return " ".join(str(next(given)) if part.isupper() else part for part in parts)
 
 
 def write(made):

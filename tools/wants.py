@@ -2,7 +2,7 @@
 
 
 def version(site, number):
-    return f"{site}:{number}"
+    return f"{site}@{number}"
 
 
 def of_advance(site, there):

@@ -48,8 +48,13 @@ def name(transaction):
 
 
 def pair(numbers):
-    """An object or a version."""
+    """An object."""
     return "%d:%d" % numbers
+
+
+def version(numbers):
+    """A commit, by its site and its number there: it isn't told as an object is."""
+    return "%d@%d" % numbers
 
 
 def many(count, what):
@@ -77,7 +82,7 @@ WHY_LATER = {
 def conflict(cause, *fields):
     """What stands in the way of a commit."""
     if cause == "modified":
-        return f"{pair(fields[0])} was modified by {pair(fields[1])}"
+        return f"{pair(fields[0])} was modified by {version(fields[1])}"
     if cause == "locked":
         return f"{pair(fields[0])} is locked by {name(fields[1])}"
     if cause == "later":
@@ -108,7 +113,7 @@ def reply(frame):
     if kind == "set":
         return "{" + ", ".join(f"{number}: {count}" for number, count in fields) + "}"
     if kind == "committed":
-        return f"committed {pair(fields)}"
+        return f"committed {version(fields)}"
     if kind == "aborted":
         return f"aborted: {conflict(*fields)}"
     if kind == "level":
@@ -124,7 +129,7 @@ def reply(frame):
 def record(one, site):
     """A record, as what a site has or may have of it."""
     if one.kind in ("Own", "Got", "Seen"):
-        return f"{one.kind} {pair((site if one.site is None else one.site, one.number))}"
+        return f"{one.kind} {version((site if one.site is None else one.site, one.number))}"
     if one.kind == "Prepared":
         return f"Prepared {one.number} of {one.site}, {objects(one.objects)} for {name(one.name)}"
     if one.kind == "Released":
@@ -197,9 +202,9 @@ def taken(moment):
         return ", ".join(told) or record(wrote, moment.site)
     site = moment.site if wrote.site is None else wrote.site
     if wrote.kind in ("Own", "Seen"):
-        return f"committed {pair((site, wrote.number))}"
+        return f"committed {version((site, wrote.number))}"
     if wrote.kind == "Got":
-        return f"received {pair((site, wrote.number))}"
+        return f"received {version((site, wrote.number))}"
     if wrote.kind == "Prepared":
         return f"locks {objects(wrote.objects)}, votes YES"
     if wrote.kind == "Released":
@@ -252,7 +257,8 @@ def outcome(moment, whole=True):
 
 def restarted(moment):
     if moment.entry.outcome[0] == "passed":
-        return f"site {moment.site} is up already"
+        pump = moment.pump and (f"line {moment.pump.line}" if moment.pump.line else f"step {moment.pump.place}")
+        return f"site {moment.site} is up already" + (f": the pump of {pump} has brought it up" if pump else "")
     return f"site {moment.site} is up in epoch {moment.entry.wrote.number}" if moment.entry.wrote else "taken"
 
 
@@ -324,6 +330,8 @@ def left_over(run):
             yield f"not played: {call(scenario, (client, frame))}: it had no turn"
         if scenario.rests[client]:
             yield f"not played: {scenario.names[client]} bytes {scenario.rests[client].hex()}: {why_no_call(calls)}"
+    for line in scenario.past_the_link():
+        yield f"past the link: settle in line {line} delivers all that is on its way, whatever the link would do with it"
     for step in run.steps:
         if step.why:
             yield f"not played: {step_words(scenario, step)}: {step.why}"

@@ -12,6 +12,7 @@ import os
 import resource
 import shutil
 import stat
+import subprocess
 import sys
 import tempfile
 import unittest
@@ -56,6 +57,16 @@ def seconds_of_commands():
     """The processor time of the commands that tests have run so far: how long they are waited for depends on the machine's load."""
     taken = resource.getrusage(resource.RUSAGE_CHILDREN)
     return taken.ru_utime + taken.ru_stime
+
+
+@functools.lru_cache(maxsize=None)
+def built_program():
+    """The path of this repository's proved program, or None where it would have to be proved first."""
+    walter = os.path.join(TOP, "walter")
+    version = subprocess.run([walter, "--version"], stdout=subprocess.PIPE, text=True).stdout
+    if "proved and built" not in version:
+        return None
+    return subprocess.run([walter, "--where"], stdout=subprocess.PIPE, text=True).stdout.rstrip("\n")
 
 
 def examples(kind):

@@ -26,7 +26,7 @@ CHOICES = [0, 1, 7, 256, 257]
 # The calls of a restart that an arm counts where there are two areas: a read, the four of a pack, and the four of an append.
 READ, PACK, APPEND = 1, (2, 3, 4, 5), (6, 7, 8, 9)
 BOOT = b"\1\0\0\0\1"
-OWN = record_of((model.OWN, 1, model.Tx((0, 1, 1), 0, (0,), ((model.WRITE, (1, 5), b"hello"),))))
+OWN = record_of((model.OWN, 1, model.Tx((0, 1, 1), 0, (0,), ((model.WRITE, (10, 5), b"hello"),))))
 
 
 def played(made, met=None, **more):

@@ -4,10 +4,11 @@ import json
 import os
 import subprocess
 import sys
+import tempfile
 import unittest
 import xml.etree.ElementTree as xml
 
-from played import TOP, RANDOM, by_model, example_run, examples, file_text, random_run, source_of, without_trace
+from played import TOP, RANDOM, by_model, example_run, examples, file_text, random_run, run_tool, source_of, without_trace
 import pictures
 import reports
 import runs
@@ -216,6 +217,24 @@ class Draw(unittest.TestCase):
             self.assertEqual((wrong.returncode, wrong.stdout), (status, ""))
             self.assertEqual(wrong.stderr.split("\n")[0], said)
             self.assertNotIn("Traceback", wrong.stderr)
+
+    def test_two_runs_side_by_side(self):
+        slow = os.path.join(TOP, "examples", "slow_commit.script")
+        with tempfile.TemporaryDirectory() as folder:
+            other = os.path.join(folder, "other.script")
+            with open(other, "w", encoding="utf-8") as file:
+                file.write(file_text(slow).replace('ann: write 10:5 "t"', 'ann: write 10:6 "t"'))
+            status, drawn, wrong = run_tool("draw", "--compare", slow, other)
+            self.assertEqual((status, wrong), (0, ""))
+            both = Drawn(drawn)
+            # The write is another one, so is what comes of the commit; and the other run has no more than that.
+            rows = [one for one in both.all("rect", "differs") if "row" in one.get("class").split()]
+            self.assertEqual(len(rows), 2 * 2)
+            self.assertEqual(drawn.count("an entry that the other run hasn&#x27;t") + drawn.count("an entry that the other run hasn't"), 2)
+            self.assertEqual(run_tool("draw", "--compare", slow, slow)[1].count("row differs"), 0)
+            for words in ["--compare", slow], ["--compare", slow, other, slow], ["--compare", slow, other, "--html"], []:
+                self.assertEqual(run_tool("draw", *words)[:2], (1, ""))
+            self.assertEqual(run_tool("draw", "--compare", slow, "none.script")[0], 3)
 
     @unittest.skipUnless(os.path.exists("/dev/full"), "there is no /dev/full")
     def test_an_output_that_fails_is_told(self):

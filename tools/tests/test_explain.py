@@ -12,6 +12,7 @@ from collections import Counter
 
 from played import TOP, RANDOM, by_model, example_run, examples, file_text, random_run, source_of, without_trace
 import clocks
+import edn
 import histories
 import model
 import reports
@@ -48,7 +49,7 @@ cat: bytes 00000001
 stop 1
 bob: bytes 0000000108
 """
-FAULT = '0 <- 1 packet 2 PROPAGATE 1 of 1.1.1 (write 1:5 "s"): the disk failed; Got 1:1 is in flight, site 0 is down'
+FAULT = '0 <- 1 packet 2 PROPAGATE 1 of 1.1.1 (write 1:5 "s"): the disk failed; Got 1@1 is in flight, site 0 is down'
 LINES = f"""armed 0 call 30 choice 0 -> never comes: a later one takes its place
 armed 0 call 7 choice 1 -> comes at: {FAULT}
 bob start -> started 1.1.1
@@ -58,13 +59,13 @@ bob commit -> deciding 1.1.1; the slow commit 1 begins
 ann start -> started 0.1.1
 ann write 1:5 hex 00ff -> done
 ann commit -> aborted: 1:5 is locked by 1.1.1
-1 <- 0 packet 1 VOTE 1 YES: committed 1:1
+1 <- 0 packet 1 VOTE 1 YES: committed 1@1
 tick 1 -> to 0: PROPAGATE 1 of 1.1.1 (write 1:5 "s") as packet 3
 {FAULT}
 ann level 0.1.1 -> refused: the site is down
-restart 0 -> site 0 is up in epoch 2; found Got 1:1
+restart 0 -> site 0 is up in epoch 2; found Got 1@1
 arm 1 call 5 choice 1 -> never comes
-advance 1 from 0 -> nothing is committed: 0:1 isn't received here
+advance 1 from 0 -> nothing is committed: 0@1 isn't received here
 ann abort -> refused: no transaction is open
 stop 1 -> site 1 is down
 not played: bob commit: it had no turn
@@ -107,7 +108,7 @@ deliver to 1 from 0 packet 2
 LATER = [
     "0 <- 1 packet 3 PREPARE 2 of 1.1.2 for 1:5: votes LATER: 1:5 is locked by 1.1.1, and not all that the snapshot sees is "
     "received here",
-    '0 <- 1 packet 2 PROPAGATE 1 of 1.1.1 (write 1:5 "s"): received 1:1',
+    '0 <- 1 packet 2 PROPAGATE 1 of 1.1.1 (write 1:5 "s"): received 1@1',
     "0 <- 1 packet 3 PREPARE 2 of 1.1.2 for 1:5: votes LATER: 1:5 is locked by 1.1.1, which the snapshot sees",
     "1 <- 0 packet 2 VOTE 2 LATER, 1:5 is locked by 1.1.1, and not all that the snapshot sees is received here: "
     "nothing new: site 0 is to be asked again at a tick",
@@ -195,14 +196,14 @@ class Explain(unittest.TestCase):
 
     def test_what_the_examples_show(self):
         for name, line in [
-            ("long_fork", "ann read 2:1 -> no value"),
-            ("slow_commit", "ann commit -> aborted: 1:5 is locked by 1.1.1"),
-            ("crossed_slow_commits", "0 <- 3 packet 1 PREPARE 1 of 3.1.1 for 1:1: votes NO, it is over"),
-            ("locks_outlive_a_stop", "bob commit -> aborted: 1:1 is locked by 2.1.1"),
+            ("long_fork", "ann read 20:1 -> no value"),
+            ("slow_commit", "ann commit -> aborted: 10:5 is locked by 1.1.1"),
+            ("crossed_slow_commits", "0 <- 3 packet 1 PREPARE 1 of 3.1.1 for 10:1: votes NO, it is over"),
+            ("locks_outlive_a_stop", "bob commit -> aborted: 10:1 is locked by 2.1.1"),
             ("durable_and_visible", "0 <- 2 packet 1 ACK 1: durable mark 1"),
-            ("stop_at_the_gate", "restart 0 -> site 0 is up in epoch 2; found Own 0:1"),
-            ("two_writers", "bob commit -> aborted: 1:5 was modified by 0:1"),
-            ("pumped_link", "pump 1: tick 1 -> to 0: PREPARE 1 of 1.1.1 for 1:5 as packet 3"),
+            ("stop_at_the_gate", "restart 0 -> site 0 is up in epoch 2; found Own 0@1"),
+            ("two_writers", "bob commit -> aborted: 10:5 was modified by 0@1"),
+            ("pumped_link", "pump 1: tick 1 -> to 0: PREPARE 1 of 1.1.1 for 10:5 as packet 3"),
             ("pumped_link", "lost by the link: 1 <- 0 packet 1 VOTE 1 YES"),
         ]:
             self.assertIn(line, self.explained(example_run(os.path.join(TOP, "examples", name + ".json"))))
@@ -278,14 +279,14 @@ class Explain(unittest.TestCase):
             ("deliver to 0 from 1 packet 1 #", "#", "bob to be played next|no such entry|to be played next"),
             ("bob: commit\n", "bob: abort\n", "the next call of bob"),
             ("client bob at 1", "client bob at 1\nclient cat at 0", "the sites and the clients"),
-            ('bob: write 1:5 "s"', 'bob: write 1:5 "S"', "of what bob has done since its start"),
-            ('bob: write 1:5 "s"', 'bob: write 1:6 "s"', "of what bob has done since its start"),
+            ('bob: write 10:5 "s"', 'bob: write 10:5 "S"', "of what bob has done since its start"),
+            ('bob: write 10:5 "s"', 'bob: write 10:6 "s"', "of what bob has done since its start"),
         ]:
             self.assertIn(old, script)
             with self.assertRaisesRegex(reports.Wrong, wanted):
                 runs.Run(runs.Scenario(script.replace(old, new)), reports.read(text))
         with self.assertRaisesRegex(reports.Wrong, "line 3: wants an answer to bob: read"):
-            runs.Run(runs.Scenario(script.replace('bob: write 1:5 "s"', "bob: read 1:5")), reports.read(without_trace(text)))
+            runs.Run(runs.Scenario(script.replace('bob: write 10:5 "s"', "bob: read 10:5")), reports.read(without_trace(text)))
 
     def test_records_that_are_of_another_run_are_refused(self):
         """The trace of a lost commit with a record in flight, of which the restart finds another, and so on."""
@@ -373,7 +374,7 @@ ann: commit
             '{:type :ok, :f :txn, :value [[:w "1:5" "a"] [:r "1:5" "a"]], :process 0, :index 2}',
             '{:type :fail, :f :txn, :value [[:r "1:5" nil] [:w "1:5" "\\u0000\\u00ff\\""]], :process 1, :index 3}',
             '{:type :invoke, :f :txn, :value [[:r "1:5" nil]], :process 0, :index 4}',
-            '{:type :info, :f :txn, :value [[:r "1:5" nil]], :process 0, :index 5}',
+            '{:type :info, :f :txn, :value [[:r "1:5" "a"]], :process 0, :index 5}',
             '{:type :invoke, :f :txn, :value [[:r "1:5" nil]], :process 2, :index 6}',
             '{:type :ok, :f :txn, :value [[:r "1:5" "a"]], :process 2, :index 7}',
         ])
@@ -381,11 +382,11 @@ ann: commit
     def test_a_history_of_sets(self):
         run = example_run(os.path.join(TOP, "examples", "friend_list.json"))
         lines = histories.History(run, histories.SETS).text().splitlines()
-        self.assertEqual(lines[0], '{:type :invoke, :f :sets, :value [[:add "3:1" 5] [:add "3:1" 7]], :process 0, :index 0}')
-        reads = '{:type :invoke, :f :sets, :value [[:r "3:1" nil] [:count "3:1" 5 nil]], :process 0, :index 4}'
+        self.assertEqual(lines[0], '{:type :invoke, :f :sets, :value [[:add "30:1" 5] [:add "30:1" 7]], :process 0, :index 0}')
+        reads = '{:type :invoke, :f :sets, :value [[:r "30:1" nil] [:count "30:1" 5 nil]], :process 0, :index 4}'
         self.assertEqual(lines[-2], reads)
         self.assertEqual(histories.History(run).text(), "")
-        self.assertEqual(histories.edn({7: 2, 9: -1}), "{7 2, 9 -1}")
+        self.assertEqual(edn.edn({7: 2, 9: -1}), "{7 2, 9 -1}")
 
     def test_a_value_is_written_to_an_object_once(self):
         """Elle tells writes apart by their values; one transaction may write a value twice."""
@@ -412,7 +413,7 @@ ann: commit
                         ended |= {process} if one["type"] == "info" else set()
                 self.assertEqual(open_at, {})
                 for one in operations[:20]:
-                    self.assertEqual(read_edn(histories.edn(one)), plain(one))
+                    self.assertEqual(read_edn(edn.edn(one)), plain(one))
 
     def test_clocks(self):
         """A log is read back by the expression in its first line; a clock says just which entries one comes behind."""
@@ -446,7 +447,7 @@ ann: commit
         text = by_model(file_text(SLOW)).text()
         told = subprocess.run(tool, input=text, capture_output=True, text=True)
         self.assertEqual((told.returncode, told.stderr), (0, ""))
-        self.assertIn("1 <- 0 packet 1 VOTE 1 YES: committed 1:1\n", told.stdout)
+        self.assertIn("1 <- 0 packet 1 VOTE 1 YES: committed 1@1\n", told.stdout)
         with tempfile.TemporaryDirectory() as folder:
             wanted, report = os.path.join(folder, "wanted"), os.path.join(folder, "report")
             for path, content in [(wanted, told.stdout), (report, text)]:
@@ -455,11 +456,11 @@ ann: commit
             same = subprocess.run(tool + [report, "--expect", wanted], capture_output=True, text=True)
             self.assertEqual((same.returncode, same.stdout, same.stderr), (0, "", ""))
             with open(wanted, "w", encoding="utf-8") as file:
-                file.write(told.stdout.replace("locks 1:5", "locks 1:6"))
+                file.write(told.stdout.replace("locks 10:5", "locks 10:6"))
             other = subprocess.run(tool + [report, "--expect", wanted], capture_output=True, text=True)
             self.assertEqual((other.returncode, other.stdout), (1, ""))
             self.assertTrue(other.stderr.startswith(f"explain: {wanted}: line 6 differs\nwanted: 0 <- 1 packet 1 PREPARE"))
-        for word, first in [("--history", '{:type :invoke, :f :txn, :value [[:w "1:5" "s"]], :process 1, :index 0}'),
+        for word, first in [("--history", '{:type :invoke, :f :txn, :value [[:w "10:5" "s"]], :process 1, :index 0}'),
                             ("--shiviz", clocks.EXPRESSION)]:
             made = subprocess.run(tool + [word], input=text, capture_output=True, text=True)
             self.assertEqual((made.returncode, made.stdout.split("\n")[0]), (0, first))
@@ -474,7 +475,7 @@ ann: commit
             ([SLOW, "--shiviz"], without_trace(text), 2, "standard input: it has no trace, which --trace writes"),
             ([source_of(SLOW) + "x"], text, 3, source_of(SLOW) + "x: No such file or directory"),
             ([__file__], text, 2, __file__ + ', line 1: '),
-            (["/dev/null"], text, 2, "/dev/null, line 1: wants sites N tolerated F"),
+            (["/dev/null"], text, 2, "/dev/null: it is empty: wants a script or a scenario"),
             ([SLOW, "--fly"], text, 1, "unrecognized arguments: --fly"),
         ]:
             wrong = subprocess.run(tool + given, input=report, capture_output=True, text=True)

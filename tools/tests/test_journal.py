@@ -19,7 +19,7 @@ STOP = [["stop", 0], ["restart", 0]]
 ONE_AREA = """\
 {}: WALTERJ1, one area, 142 bytes, for 1 site
   gate 8 open, record at 9 of 5 bytes: Boot 1
-  gate 18 open, record at 19 of 118 bytes: Own 0:1 of 0.1.1, with the snapshot 0 (write 1:5 "hello")
+  gate 18 open, record at 19 of 118 bytes: Own 0@1 of 0.1.1, with the snapshot 0 (write 10:5 "hello")
   gate 141 closed
   nothing behind it
 """
@@ -28,7 +28,7 @@ TWO_AREAS = """\
   switch 0: area A is live
   area A at 9: live, with a pack of 0 bytes
     gate 17 open, record at 18 of 5 bytes: Boot 1
-    gate 27 open, record at 28 of 118 bytes: Own 0:1 of 0.1.1, with the snapshot 0 (write 1:5 "hello")
+    gate 27 open, record at 28 of 118 bytes: Own 0@1 of 0.1.1, with the snapshot 0 (write 10:5 "hello")
     gate 150 closed
     nothing behind it
   area B at 151: no bytes
@@ -39,7 +39,7 @@ IN_B = """\
   area A at 9: 142 bytes that don't count
   area B at 151: live, with a pack of 77 bytes
     entry at 159 of 5 bytes: Boot 1
-    entry at 169 of 62 bytes without 56 zeros: Own 0:1 of 0.1.1, with the snapshot 0 (write 1:5 "hello")
+    entry at 169 of 62 bytes without 56 zeros: Own 0@1 of 0.1.1, with the snapshot 0 (write 10:5 "hello")
     gate 236 open, record at 237 of 5 bytes: Boot 2
     gate 246 closed
     nothing behind it
@@ -49,7 +49,7 @@ IN_A = """\
   switch 0: area A is live
   area A at 9: live, with a pack of 87 bytes
     entry at 17 of 5 bytes: Boot 1
-    entry at 27 of 62 bytes without 56 zeros: Own 0:1 of 0.1.1, with the snapshot 0 (write 1:5 "hello")
+    entry at 27 of 62 bytes without 56 zeros: Own 0@1 of 0.1.1, with the snapshot 0 (write 10:5 "hello")
     entry at 94 of 5 bytes: Boot 2
     gate 104 open, record at 105 of 5 bytes: Boot 3
     gate 114 closed
@@ -109,13 +109,13 @@ class Shown(InWords):
 
     def test_the_records_of_several_sites(self):
         told = [self.lines(data, "--sites", "4") for data in disks_of(example("crossed_slow_commits"))]
-        self.assertEqual(told[0][2:4], ["  gate 18 open, record at 19 of 37 bytes: Prepared 1 of 2, 1:1 for 2.1.1",
+        self.assertEqual(told[0][2:4], ["  gate 18 open, record at 19 of 37 bytes: Prepared 1 of 2, 10:1 for 2.1.1",
                                         "  gate 60 open, record at 61 of 10 bytes: Released 1 of 2"])
         self.assertEqual(told[2][2:4], ["  gate 18 open, record at 19 of 132 bytes: SlowBegin 1 of 2.1.1, with the snapshot "
-                                        '0,0,0,0 (write 1:1 "a", write 2:1 "a")',
+                                        '0,0,0,0 (write 10:1 "a", write 20:1 "a")',
                                         "  gate 155 open, record at 156 of 9 bytes: SlowEnd 1"])
         told = [self.lines(data, "--sites", "2") for data in disks_of(example("slow_commit"))]
-        self.assertIn('Own 1:1 of 1.1.1, its slow commit 1, with the snapshot 0,0 (write 1:5 "s")', "\n".join(told[1]))
+        self.assertIn('Own 1@1 of 1.1.1, its slow commit 1, with the snapshot 0,0 (write 10:5 "s")', "\n".join(told[1]))
 
     def test_all_records_of_random_runs(self):
         """Those of the trail, and one in flight that a restart would find, whatever number of sites is told."""
@@ -148,7 +148,7 @@ class Shown(InWords):
         self.assertEqual(self.lines(data)[1:-2], ["  gate 8 open, record at 9 of 2 bytes: no record: 0102",
                                                   f"  gate 15 open, record at 16 of 100 bytes: no record: {'00' * 32}..",
                                                   "  gate 120 open, record at 121 of 0 bytes: no record: ",
-                                                  "  gate 125 open, record at 126 of 10 bytes: Seen 2:1"])
+                                                  "  gate 125 open, record at 126 of 10 bytes: Seen 2@1"])
 
 
 class Given:
@@ -162,7 +162,7 @@ class Behind(InWords):
     """What stands behind the last gate."""
 
     def test_a_fault_of_a_commit(self):
-        record = 'a record of 118 bytes that doesn\'t count: Own 0:1 of 0.1.1, with the snapshot 0 (write 1:5 "hello")'
+        record = 'a record of 118 bytes that doesn\'t count: Own 0@1 of 0.1.1, with the snapshot 0 (write 10:5 "hello")'
         for nth, choice, wanted in [(1, 0, "nothing behind it"), (1, 1, f"at 19: {record}, and 1 byte behind it"),
                                     (1, 7, "at 19: 123 bytes, which begin with no record"), (1, 256, "at 19: 123 bytes of 0"),
                                     (3, 0, f"at 19: {record}, and 1 byte behind it"), (3, 1, "nothing behind it"),

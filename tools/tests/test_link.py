@@ -24,9 +24,9 @@ bob commit -> deciding 1.1.1; the slow commit 1 begins
 pump 0: 0 <- 1 packet 1 PREPARE 1 of 1.1.1 for 1:5: locks 1:5, votes YES
 pump 1: tick 1 -> to 0: PREPARE 1 of 1.1.1 for 1:5 as packet 2
 pump 0: 0 <- 1 packet 2 PREPARE 1 of 1.1.1 for 1:5: votes YES again
-pump 1: 1 <- 0 packet 2 VOTE 1 YES: committed 1:1
-bob commit -> committed 1:1
-pump 0: 0 <- 1 packet 3 PROPAGATE 1 of 1.1.1 (write 1:5 "s"): received 1:1
+pump 1: 1 <- 0 packet 2 VOTE 1 YES: committed 1@1
+bob commit -> committed 1@1
+pump 0: 0 <- 1 packet 3 PROPAGATE 1 of 1.1.1 (write 1:5 "s"): received 1@1
 pump 1: 1 <- 0 packet 3 ACK 1: durable mark 1
 pump 1: 1 <- 0 packet 3 ACK 1: nothing new: 1 was said before
 stop 1 -> site 1 is down
@@ -40,7 +40,7 @@ never delivered: 1 <- 0 packet 5 ACK 1
 lost by the link: 0 <- 1 packet 4 DSMARK 1
 """
 # What stands behind HEAD, the line that is wrong, the word that is quoted, what is wanted there, and the form.
-LINK_FORM, PUMP_FORM = "link seed N lose N repeat N swap N", "pump SITE"
+LINK_FORM, PUMP_FORM = "link seed N lose N repeat N swap N", "pump all or pump until idle or pump SITE"
 WRONG = [
     ("link seed 18446744073709551616 lose 0 repeat 0 swap 0", '"18446744073709551616": wants a seed below 2^64', LINK_FORM),
     ("link seed 0 lose 1001 repeat 0 swap 0", '"1001": wants of 1000 packets so many, to 1000', LINK_FORM),
@@ -50,7 +50,7 @@ WRONG = [
     ("ticks 10001", '"10001": wants a number of ticks to 10000', "ticks N"),
     ("threads 33", '"33": wants a number of threads from 1 to 32', "threads N"),
     ("pump 2", '"2": wants a site below 2', PUMP_FORM),
-    ("pump", 'behind "pump": wants SITE', PUMP_FORM),
+    ("pump", 'behind "pump": wants all or until or SITE', PUMP_FORM),
     ("pump 0 1", '"1": wants nothing there', PUMP_FORM),
 ]
 
@@ -187,8 +187,8 @@ class Told(InFolder):
         text = HEAD + 'ticks 0\nann: start\nann: write 1:1 "a"\nann: commit\npump 1\npump 1\npump 1\npump 1\nadvance 1 from 0\n'
         lines = [*words.lines(told_of(text)), *words.left_over(told_of(text))]
         self.assertEqual(lines[5:8], [
-            "pump 1: advance 1 from 0 -> committed 0:1",
-            "advance 1 from 0 -> nothing is committed: 0:2 isn't received here",
+            "pump 1: advance 1 from 0 -> committed 0@1",
+            "advance 1 from 0 -> nothing is committed: 0@2 isn't received here",
             "not played: pump 1 in line 12: site 1 has nothing to do, and its pump has made all of its ticks"])
 
     def test_without_a_trace_the_replies_are_told(self):

@@ -106,12 +106,30 @@ class Names(unittest.TestCase):
         with mock.patch.object(names, "MOST_SETTLING", 3):
             self.is_refused(COMMITTED + "settle\n", 'line 10: "settle": wants what comes to its end within 3 steps')
 
+    def test_pumps_of_all_sites(self):
+        self.assertEqual(steps_of(COMMITTED + "pump all\n")[6:], [["pump", site] for site in range(2)])
+        made = scripts.read(COMMITTED + "pump until idle\n")
+        steps = made["steps"][6:]
+        self.assertEqual({step[0] for step in steps}, {"pump"})
+        played = by_model(json.dumps(made))
+        self.assertEqual([site.committed for site in played.sites], [[2, 0]] * 2)
+        self.assertEqual({entry.event for site in played.sites for entry in site.entries} & {"tick"}, set())
+        # Nothing is left to do then but to tick.
+        self.assertEqual(steps_of(COMMITTED + "pump until idle\npump until idle\n")[6:], steps)
+        self.assertEqual(steps_of(COMMITTED + "stop 1\npump until idle\n")[7:8], [["pump", 1]])
+        lossy = COMMITTED.replace("client", "link seed 7 lose 600 repeat 100 swap 100\nclient", 1) + "pump all\npump until idle\n"
+        events = [entry.event for site in by_model(json.dumps(scripts.read(lossy))).sites for entry in site.entries]
+        self.assertLessEqual(events.count("tick"), 2)
+        self.assertTrue(all(site.up for site in by_model(json.dumps(scripts.read(COMMITTED + "stop 1\npump until idle\n"))).sites))
+        with mock.patch.object(names, "MOST_SETTLING", 3):
+            self.is_refused(COMMITTED + "pump until idle\n", 'line 10: "idle": wants what comes to its end within 3 steps')
+
     def test_advance_to_a_site(self):
         named = "deliver to 1 from 0 PROPAGATE\ndeliver to 1 from 0 PROPAGATE\ndeliver to 1 from 0 DSMARK 2\nadvance to 1\n"
         self.assertEqual(steps_of(COMMITTED + named)[-2:], [["advance", 1, 0]] * 2)
         self.is_refused(COMMITTED + "advance to 1\ndeliver to 1 from 0 PROPAGATE\nadvance to 1\nstop 1\nadvance to 1\n",
-                        'line 10: "to 1": wants something to commit at site 1: 0:1 isn\'t received there',
-                        'line 12: "to 1": wants something to commit at site 1: 0:1 isn\'t durable by the word of site 0',
+                        'line 10: "to 1": wants something to commit at site 1: 0@1 isn\'t received there',
+                        'line 12: "to 1": wants something to commit at site 1: 0@1 isn\'t durable by the word of site 0',
                         'line 14: "to 1": wants something to commit at site 1: site 1 is down')
 
     def test_the_level_of_the_last(self):

@@ -86,11 +86,14 @@ class Page(unittest.TestCase):
         page = pages.page(run)
         self.assertIsNone(re.search(r"(src|href)=|@import|url\(", page))
         self.assertEqual(page.count("<svg "), 1)
+        # The panel says what to do, and nothing that is chosen lies under the bar.
+        self.assertIn('"what to do"', page)
+        self.assertIn("scroll-padding: calc(var(--bar) + 30px) 0 30px", page)
         entries = data_of(page)["entries"]
         self.assertEqual([one["line"] for one in entries], [one.entry.line for one in pictures.in_order(run)])
         said = {one["line"]: (one["client"], one["transaction"], one["kind"], one["said"]) for one in entries}
         vote = next(line for line in said if line.startswith("e 6 1"))
-        self.assertEqual(said[vote], ("bob", "1.1.1", "VOTE", "1 <- 0 packet 1 VOTE 1 YES: committed 1:1 [Own 1:1]"))
+        self.assertEqual(said[vote], ("bob", "1.1.1", "VOTE", "1 <- 0 packet 1 VOTE 1 YES: committed 1@1 [Own 1@1]"))
 
     def test_text_of_a_script_stays_text(self):
         script = '# </title><script>\nsites 1 tolerated 0\ncontainer 1 regular at 0\nclient ann at 0\nann: start\n' \
@@ -105,14 +108,14 @@ class Page(unittest.TestCase):
         """Behind the last entry that a site has in a slow commit: the lock stays where the commit never came."""
         run = watched(SLOW)
         lines = {moment.site: dict(run.held[moment]) for moment in run.moments}
-        self.assertEqual(lines[0], {"stands": "up", "committed": "nothing", "holds": "nothing", "locks": "1:5 for 1.1.1",
+        self.assertEqual(lines[0], {"stands": "up", "committed": "nothing", "holds": "nothing", "locks": "10:5 for 1.1.1",
                                     "peers": "1 has said: received 0, committed 0, durable there 0"})
-        self.assertEqual(lines[1], {"stands": "up", "committed": "1:1", "holds": '1:5 "s"', "marks": "durable 0, visible 0",
+        self.assertEqual(lines[1], {"stands": "up", "committed": "1@1", "holds": '10:5 "s"', "marks": "durable 0, visible 0",
                                     "peers": "0 has said: received 0, committed 0, durable there 0"})
         self.assertEqual([dict(one)["stands"] for one in run.begin], ["down", "down"])
         stop = watched(os.path.join(TOP, "examples", "stop_at_the_gate.json"))
         stands = [dict(stop.held[moment])["stands"] for moment in stop.moments]
-        self.assertEqual(stands, ["up"] * 3 + ["down, with Own 0:1 in flight"] * 2 + ["up"] * 2)
+        self.assertEqual(stands, ["up"] * 3 + ["down, with Own 0@1 in flight"] * 2 + ["up"] * 2)
 
     def test_what_random_sites_hold_is_what_they_hold(self):
         """At the end the commits and the values are those of the model."""
@@ -134,7 +137,7 @@ class Page(unittest.TestCase):
         run = watched(os.path.join(TOP, "examples", "durable_and_visible.json"), 5, 7)
         data = data_of(pages.page(run, 5, 7))
         self.assertEqual({one["stamp"] for one in data["entries"]}, {5, 6, 7})
-        self.assertEqual(dict(data["begin"][0])["committed"], "0:1")
+        self.assertEqual(dict(data["begin"][0])["committed"], "0@1")
         self.assertEqual(dict(data["begin"][1])["committed"], "nothing")
 
     def test_which_transaction_entries_are_of(self):
@@ -143,8 +146,8 @@ class Page(unittest.TestCase):
         names = transactions.Names(run)
         told = {words.moment_line(run.scenario, one): names.of_moment(one) for one in run.moments}
         of_ann = ["ann commit -> deciding 2.1.1; the slow commit 1 begins", "ann level 2.1.1 -> level 0: not committed",
-                  "0 <- 2 packet 1 PREPARE 1 of 2.1.1 for 1:1: locks 1:1, votes YES",
-                  "2 <- 1 packet 1 VOTE 1 NO, 2:1 is locked by 3.1.1: the slow commit 1 has ended",
+                  "0 <- 2 packet 1 PREPARE 1 of 2.1.1 for 10:1: locks 10:1, votes YES",
+                  "2 <- 1 packet 1 VOTE 1 NO, 20:1 is locked by 3.1.1: the slow commit 1 has ended",
                   "0 <- 2 packet 2 RELEASE 1: the slow commit 1 of 2 is over here"]
         self.assertEqual({told[line] for line in of_ann}, {(2, 1, 1)})
         self.assertEqual(names.of_moment(run.moments[0]), None)

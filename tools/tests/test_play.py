@@ -9,7 +9,7 @@ import sys
 import unittest
 import unittest.mock
 
-from played import InFolder, RANDOM, TOP, by_model, examples, file_text, random_run, run_tool, seconds_of_commands, tool, \
+from played import InFolder, RANDOM, TOP, built_program, by_model, examples, file_text, random_run, run_tool, seconds_of_commands, tool, \
     without_trace
 
 EXAMPLES = os.path.join(TOP, "examples")
@@ -50,13 +50,13 @@ stop 2
 deliver to 2 from 0 PROPAGATE 2
 """
 WANTED = [
-    '1 <- 0 packet 3 PROPAGATE 2 of 0.1.2 (write 1:1 "b"): not received: 0:1 isn\'t received here',
-    "advance 1 from 0 -> nothing is committed: 0:1 isn't received here",
-    "advance 1 from 0 -> nothing is committed: 0:1 isn't durable by the word of site 0",
+    '1 <- 0 packet 3 PROPAGATE 2 of 0.1.2 (write 1:1 "b"): not received: 0@1 isn\'t received here',
+    "advance 1 from 0 -> nothing is committed: 0@1 isn't received here",
+    "advance 1 from 0 -> nothing is committed: 0@1 isn't durable by the word of site 0",
     "1 <- 0 packet 2 DSMARK 1: nothing new: 2 was said before",
-    '2 <- 1 packet 1 PROPAGATE 1 of 1.1.1 (write 2:1 "c"): not received: its cause 0:1 isn\'t received here',
-    "advance 2 from 1 -> nothing is committed: 1:1 isn't received here",
-    "advance 2 from 1 -> nothing is committed: its cause 0:1 isn't committed here",
+    '2 <- 1 packet 1 PROPAGATE 1 of 1.1.1 (write 2:1 "c"): not received: its cause 0@1 isn\'t received here',
+    "advance 2 from 1 -> nothing is committed: 1@1 isn't received here",
+    "advance 2 from 1 -> nothing is committed: its cause 0@1 isn't committed here",
     '2 <- 0 packet 1 PROPAGATE 1 of 0.1.1 (write 1:1 "a"): received already',
     '2 <- 0 packet 3 PROPAGATE 2 of 0.1.2 (write 1:1 "b"): site 2 is down',
 ]
@@ -94,7 +94,7 @@ class Play(InFolder):
     def test_lines_that_are_expected(self):
         expect = SLOW.replace(".script", ".expect")
         self.assertEqual(run_tool("play", SLOW, "--expect", expect), (0, "", ""))
-        other = self.write("other.expect", file_text(expect).replace("locks 1:5", "locks 1:6"))
+        other = self.write("other.expect", file_text(expect).replace("locks 10:5", "locks 10:6"))
         status, told, wrong = run_tool("play", SLOW, "--expect", other)
         self.assertEqual((status, told), (1, ""))
         self.assertTrue(wrong.startswith(f"play: {SLOW}: line 6 differs\nwanted: 0 <- 1 packet 1 PREPARE"), wrong)
@@ -111,8 +111,8 @@ class Play(InFolder):
         self.assertEqual(run_tool("play", SLOW, "--program", empty)[0], 2)
 
     def test_the_program_of_this_repository_tells_the_same(self):
-        program = os.path.join(TOP, "crates", "walter", "out", "walter")
-        if not os.path.exists(program):
+        program = built_program()
+        if program is None:
             self.skipTest("the program isn't proved and built here")
         for path in examples("expect"):
             self.assertEqual(run_tool("play", path.replace(".expect", ".script"), "--program", program, "--expect", path)[0], 0)
@@ -149,14 +149,14 @@ class Play(InFolder):
         script = self.write("wrong.script", 'sites 1 tolerated 0\nclient ann at 0\nann: write 1:5 "a\nfly\n')
         for words, status, said in [
             ([script], 2, f'play: {script}, line 3: "a: wants a text that ends: "..."\n{script}, line 4: "fly": wants one of '),
-            ([self.write("empty.script", "")], 2, f"play: {self.folder}/empty.script, line 1: wants sites N tolerated F\n"),
+            ([self.write("empty.script", "")], 2, f"play: {self.folder}/empty.script: it is empty: wants a script or a scenario\n"),
             ([self.write("wrong.json", '{"sites":9}')], 2, f"play: {self.folder}/wrong.json: the keys: wants sites, f"),
             ([self.write("broken.json", "{")], 2, f"play: {self.folder}/broken.json: the text is no JSON: line 1, column 1\n"),
             (["none.script"], 3, "play: none.script: No such file or directory\n"),
             ([self.folder], 0, None),
-            ([], 1, "play: wants the path of what is to be played\nusage: play "),
-            (["--fly"], 1, "play: unrecognized arguments: --fly\nusage: play "),
-            ([EXAMPLES, "--packets"], 1, "play: a folder is played without --packets\n"),
+            ([], 1, "play: wants the path of what is to be played; --help tells the words\n"),
+            (["--fly"], 1, "play: unrecognized arguments: --fly; --help tells the words\n"),
+            ([EXAMPLES, "--packets"], 1, "play: a folder is played without --packets; --help tells the words\n"),
             ([SLOW, "--expect", "none.expect"], 3, "play: none.expect: No such file or directory\n"),
         ]:
             if said:

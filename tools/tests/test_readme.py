@@ -52,9 +52,9 @@ class Readme(unittest.TestCase):
 
     def check_first_script(self, lines):
         """It has a slow commit, a lost packet and its repair, and comes to what its comments say."""
-        for line in ["bob commit -> deciding 1.1.1", "tick 1 -> to 0: PREPARE 1 of 1.1.1 for 1:5 as packet 2",
-                     "1 <- 0 packet 1 VOTE 1 YES: committed 1:1", 'ann read 1:5 -> "s"', "bob level 1.1.1 -> level 5: visible",
-                     "never delivered: 0 <- 1 packet 1 PREPARE 1 of 1.1.1 for 1:5"]:
+        for line in ["bob commit -> deciding 1.1.1", "tick 1 -> to 0: PREPARE 1 of 1.1.1 for 10:5 as packet 2",
+                     "1 <- 0 packet 1 VOTE 1 YES: committed 1@1", 'ann read 10:5 -> "s"', "bob level 1.1.1 -> level 5: visible",
+                     "never delivered: 0 <- 1 packet 1 PREPARE 1 of 1.1.1 for 10:5"]:
             self.assertIn(line, lines.splitlines())
 
     def test_its_words_are_those_of_the_wrapper(self):
@@ -75,13 +75,13 @@ class Readme(unittest.TestCase):
 
     def test_what_it_names_is_there(self):
         for page in ["README.md", *(f"docs/{name}.md" for name in ("TOOLS", "PROMISES"))]:
-            for path in re.findall(r"\b((?:docs|tools|bench|examples|crates)/[A-Za-z_./]+[A-Za-z_])", file_text(os.path.join(TOP, page))):
+            for path in re.findall(r"\b((?:docs|tools|bench|examples|crates)/[A-Za-z_./-]+[A-Za-z_])", file_text(os.path.join(TOP, page))):
                 self.assertTrue(os.path.exists(os.path.join(TOP, path)), f"{page}: {path}")
 
     def test_the_pages_name_words_that_the_tools_have(self):
         page = file_text(os.path.join(TOP, "docs", "TOOLS.md"))
-        for tool in ("play", "explain", "draw", "vary"):
-            section = page.split(f"\n## {tool.capitalize()}\n")[1].split("\n## ")[0]
+        for tool in ("play", "explain", "draw", "vary", "check", "workload"):
+            section = page.split(f"\n## {tool.capitalize()}{'s' * (tool == 'workload')}\n")[1].split("\n## ")[0]
             # Commands of other tools stand in lines of their own.
             said = re.sub(r"(?m)^    .*$", "", section) + " ".join(re.findall(rf"tools/{tool} [^`]*", README))
             _, known, _ = run(f"tools/{tool} --help", TOP)
@@ -90,12 +90,22 @@ class Readme(unittest.TestCase):
 
     def test_the_commands_of_the_page_of_tools_run(self):
         page = file_text(os.path.join(TOP, "docs", "TOOLS.md"))
-        commands = [one for one in COMMAND.findall(page) if "vary" not in one and one != "tools/play examples"]
-        self.assertEqual(len(commands), 6)
+        commands = [one for one in COMMAND.findall(page)
+                    if not re.search("tools/(vary|check|make-dist)", one) and one != "tools/play examples"]
+        self.assertEqual(len(commands), 9)
         with tempfile.TemporaryDirectory() as folder:
             with_folders(folder)
             for command in commands:
                 self.assertEqual(run("set -o pipefail; " + command, folder)[::2], (0, ""), command)
+
+    def test_a_workload_is_told_as_the_page_has_it(self):
+        section = file_text(os.path.join(TOP, "docs", "TOOLS.md")).split("\n## Workloads\n")[1].split("\n## ")[0]
+        self.assertEqual(run(COMMAND.findall(section)[1], TOP), (0, BLOCK.findall(section)[0], ""))
+
+    def test_a_run_that_fits_no_order_is_told_as_the_page_has_it(self):
+        page = file_text(os.path.join(TOP, "docs", "TOOLS.md"))
+        section = page.split("\n## Check\n")[1].split("\n## ")[0]
+        self.assertEqual(run(COMMAND.findall(section)[0], TOP), (1, BLOCK.findall(section)[0], ""))
 
     def test_the_report_in_bytes(self):
         page = file_text(os.path.join(TOP, "docs", "TOOLS.md"))

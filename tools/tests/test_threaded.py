@@ -12,7 +12,7 @@ import unittest
 from collections import Counter
 from unittest import mock
 
-from played import InFolder, TOP, file_text, random_scenario, run_tool, without_trace
+from played import InFolder, TOP, built_program, file_text, random_scenario, run_tool, without_trace
 import ends
 import model
 import reports
@@ -251,7 +251,7 @@ class Told(InFolder):
         status, told, _ = run_tool("explain", path, report)
         self.assertEqual(status, 0)
         self.assertEqual(told.splitlines()[:3], ["client0 start -> started 0.1.1", 'client0 write 1:5 "a" -> done',
-                                                 "client0 commit -> committed 0:1"])
+                                                 "client0 commit -> committed 0@1"])
 
     def test_steps_are_ignored_where_it_is_said(self):
         made = {**SMALL, "steps": [["stop", 0], ["call", 1]]}
@@ -266,8 +266,8 @@ class Told(InFolder):
         self.assertEqual(run_tool("explain", "load", report, "--run")[0], 1)
 
     def test_the_program_of_this_repository_runs_the_example(self):
-        program = os.path.join(TOP, "crates", "walter", "out", "walter")
-        if not os.path.exists(program):
+        program = built_program()
+        if program is None:
             self.skipTest("the program isn't proved and built here")
         text = file_text(os.path.join(TOP, "examples", "threaded_run.json"))
         for threads in 1, 6, 32:

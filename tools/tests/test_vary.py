@@ -8,6 +8,7 @@ import subprocess
 import sys
 import tempfile
 import unittest
+from collections import Counter
 
 from played import TOP, by_model, file_text, run_tool, tool
 import scripts
@@ -17,6 +18,7 @@ import varied
 EXAMPLES = os.path.join(TOP, "examples")
 SLOW, FRIENDS = (os.path.join(EXAMPLES, name) for name in ("slow_commit.script", "friends_everywhere.script"))
 MODEL = f'#!/bin/sh\nshift\nexec {sys.executable} {os.path.join(TOP, "bench", "model.py")} "$@"\n'
+SKEW = os.path.join(EXAMPLES, "write_skew.script")
 ONE = ["--jobs", "1"]
 
 
@@ -60,7 +62,7 @@ class Vary(unittest.TestCase):
             run = varied.Varied(script, 1, link)
             run.play()
             self.assertGreaterEqual(steps_of(run, "tick"), ticks)
-            self.assertEqual(run.answers()[-1][1], "bob setread 3:1 -> {7: 1}")
+            self.assertEqual(run.answers()[-1][1], "bob setread 30:1 -> {7: 1}")
         twice = varied.Varied(script, 1, varied.Link(repeat=1000))
         twice.play()
         delivered = [tuple(step) for step in twice.steps if step[0] == "deliver"]
@@ -82,7 +84,26 @@ class Vary(unittest.TestCase):
         counts = [int(line.split(":")[0][2:]) for line in told.splitlines()[1:]]
         self.assertEqual((status, sum(counts)), (0, 100))
         self.assertEqual(counts, sorted(counts, reverse=True))
-        self.assertTrue(all("ann commit -> " in line and "bob commit -> " in line for line in told.splitlines()[1:]))
+        self.assertTrue(all("line 13: ann commit -> " in line and "bob commit -> " in line for line in told.splitlines()[1:]))
+
+    def test_of_many_answers_that_differ_the_first_are_told(self):
+        counts = Counter({tuple((at, f"a {at} {way}") for at in range(5)): 9 - way for way in range(2)})
+        self.assertEqual(list(tool("vary").ways(counts)), [
+            "9: line 0: a 0 0; line 1: a 1 0; line 2: a 2 0", "8: line 0: a 0 1; line 1: a 1 1; line 2: a 2 1",
+            "they differ in 2 answers more, behind these"])
+
+    def test_the_smallest_script_with_an_anomaly(self):
+        status, told, _ = run_tool("vary", SKEW, "--check", "serializable", "--seeds", "0..9", *ONE)
+        self.assertEqual((status, told.splitlines()[0]), (1, "# Write skew (what is left of: Two doctors are on call, and each goes home "
+                                                             "where the other stays: both read the same state, and both go.)"))
+        self.assertIn("# wanted: serializable\n# came:   write skew, a cycle of 2 transactions:\n", told)
+        self.assertLessEqual(told.split("\n\n")[2].count("\n"), 8)
+        path = os.path.join(self.folder, "skew.script")
+        with open(path, "w", encoding="utf-8") as file:
+            file.write(told)
+        self.assertEqual(run_tool("check", path, "--model", "si")[0], 0)
+        self.assertIn("write skew, a cycle of 2 transactions:\n", run_tool("check", path, "--model", "serializable")[1])
+        self.assertEqual(run_tool("vary", SKEW, "--check", "psi", "--lose", "200", "--stops", "1", "--seeds", "0..9", *ONE)[0], 0)
 
     def test_the_smallest_script_still_breaks_the_expectation(self):
         status, told, _ = run_tool("vary", SLOW, "--lose", "200", *ONE, "--expect", SLOW.replace(".script", ".expect"))
@@ -104,17 +125,17 @@ class Vary(unittest.TestCase):
         with open(path, "w", encoding="utf-8") as file:
             file.write(more)
         status, told, _ = run_tool("vary", path, "--stops", "1", *ONE, "--seeds", "0..30",
-                                   "--check", 'grep -q "bob setread 3:1 -> {7: 1}"')
+                                   "--check", 'grep -q "bob setread 30:1 -> {7: 1}"')
         self.assertEqual(status, 1)
         script = scripts.read_script(told)
         self.assertNotIn("dan", script.numbers)
         self.assertIn("came:   another status", told)
         run = smaller.played(script, script.items)
-        self.assertNotIn("bob setread 3:1 -> {7: 1}", [words for _, words in run.answers()])
+        self.assertNotIn("bob setread 30:1 -> {7: 1}", [words for _, words in run.answers()])
 
     def test_areas_that_have_no_part_in_it_are_left_out(self):
         script = scripts.read_script(file_text(os.path.join(EXAMPLES, "packed_on_restart.script")))
-        for broken, areas in ("-> refused: the journal needs 123 bytes", 2), ("ann commit -> committed 0:1", None):
+        for broken, areas in ("-> refused: the journal needs 123 bytes", 2), ("ann commit -> committed 0@1", None):
             search = smaller.Search(script, smaller.played(script, script.items),
                                     lambda run: any(broken in words for _, words in run.answers()), lambda run: True)
             found = search.smallest()
@@ -151,7 +172,7 @@ class Vary(unittest.TestCase):
 
     def test_wrong_words_are_told(self):
         for words, status, said in [
-            ([], 1, "vary: wants the path of what is to be played\nusage: vary "),
+            ([], 1, "vary: wants the path of what is to be played; --help tells the words\n"),
             ([SLOW, "--seeds", "9..3"], 1, "vary: argument --seeds: '9..3': wants A..B"),
             ([SLOW, "--lose", "1001"], 1, "vary: argument --lose: '1001': wants a whole number to 1000"),
             ([SLOW, "--expect", "a", "--check", "b"], 1, "vary: argument --check: not allowed with argument --expect"),
