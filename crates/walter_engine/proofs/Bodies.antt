@@ -1,6 +1,6 @@
 -- The bodies of a journal, and the records that they spell.
 use Rattle.std.proofs.Common.{◌≡◌, ℕ, zero, suc, ◌+◌, ◌<◌, List, [], ◌∷◌, ◌++◌, length, map, take, get_or, Option, Some, Result, Ok, Err, refl, ap, sym, ◌∙◌, subst}
-use Rattle.std.specs.Prelude.{All, IfSome, IfErr, slice_get, option_map}
+use Rattle.std.specs.Prelude.{All, IfSome, IfErr, OnOk, slice_get, option_map}
 use Rattle.std.specs.List.{AllByRecursion}
 use Rattle.std.proofs.lemmas.List.{take-map, map_more}
 use Rattle.std.proofs.lemmas.List.Elements.{All-nil, recursion_from_All}
@@ -45,7 +45,7 @@ unfit header tables body rec (Err Unfit) has is wrong = λ K stands.
 unfit header tables body rec (Err NoMemory) has is wrong = tt
 
 -- one whose record is replayed
-pub takes : (header : Format) (old new : Tables) (body : List ℕ) (rec : Record)
+takes : (header : Format) (old new : Tables) (body : List ℕ) (rec : Record)
     → HasRecordSpelling (format_in header old) (catalog_of old).sites rec → body ≡ record_spelled (format_in header old) rec
     → ((K : Knowledge) → Stands old K → CanFollow (catalog_of old) (site_of old) K rec) → Follows old rec new
     → Takes header old body new
@@ -57,6 +57,13 @@ takes header old new body rec has is follows leaves = record {
   leaves = λ K stands.
       leaves K stands (follows K stands) (sized_among (format_in header old) (catalog_of old).sites rec has);
 }
+
+pub taken_if : (header : Format) (old new : Tables) (body : List ℕ) (rec : Record) {A E : Type 0} (result : Result A E)
+    → HasRecordSpelling (format_in header old) (catalog_of old).sites rec → body ≡ record_spelled (format_in header old) rec
+    → OnOk result ((K : Knowledge) → Stands old K → CanFollow (catalog_of old) (site_of old) K rec)
+    → OnOk result (Follows old rec new) → OnOk result (Takes header old body new)
+taken_if header old new body rec (Ok x) has is follows leaves = takes header old new body rec has is follows leaves
+taken_if header old new body rec (Err e) has is follows leaves = tt
 
 -- no body yet
 pub tells_none : (header : Format) (catalog : Catalog) (i : SiteId) (tables : Tables) → Stands tables fresh

@@ -16,7 +16,7 @@ use Rattle.walter_engine.specs.declared.answers.RefusedRestart.TheVariants as re
 use Rattle.walter_engine.specs.declared.engine.Engine.{Engine}
 use Rattle.walter_engine.specs.Contents.{AreSpelled, HasBodies, MayHaveRecords, MayHaveNext, spelled}
 use Rattle.walter_engine.specs.Effects.{HasCome, IsRefusedOver, IsRefusedFor}
-use Rattle.walter_engine.specs.Engines.{Stands, layout_in}
+use Rattle.walter_engine.specs.Engines.{Stands, catalog_in, layout_in}
 use Rattle.walter_engine.specs.Raises.{LiesIn, Raises, calls_before, unloaded_by}
 use Rattle.walter_engine.specs.Restarts.{ComesOf, RestartsOver, left_over}
 use Rattle.walter_engine.specs.Stores.{IsOnDisk, IsStored, IsLeft, book_if, disk_if, layout_by, layout_of}
@@ -273,8 +273,9 @@ module _ {D : Type 0} {g : Ghosts D} where
     lies_settled catalog i kept spellings down told found count = record {
       down = settled_up catalog i S kept ∙ down;
       told = told;
-      spelled = spelled_settled catalog.sites catalog i S kept spelled (has_spelling catalog.sites S kept spelled found);
-      is = settled_there header catalog i S kept bodies there_loaded found count;
+      spellings = spelled_settled (header_of layout) catalog.sites catalog i S kept spellings
+          (has_spelling (header_of layout) catalog.sites S kept spellings found);
+      is = settled_there (header_of layout) catalog i S kept bodies there_loaded found count;
       laid = laid_loaded;
       stands = stands;
     }

@@ -18,7 +18,7 @@ returns-in-Ok-boot-clause-ready c =
     is_ready_over First c.args.catalog.now c.args.id (map (λ body. body.items) c.args.bodies.now) c.in-Ok.tables c.in-Ok-boot.ready
     c.in-Ok.ensures.catalog c.in-Ok.ensures.site c.in-Ok.ensures.told boot.anyway boot.ready boot.boots
     (λ last. absurd (let e = sym c.in-Ok-boot.is ∙ c.boot.ensures.takes_none last in cc))
-    c.format.result c.format.ensures
+    c.format-format.result c.format-format.ensures
 
 pub returns-in-Err-LastEpoch-clause-refused : goal.returns-in-Err-LastEpoch-clause-refused
 returns-in-Err-LastEpoch-clause-refused c =

@@ -87,8 +87,8 @@ spell_any-requires-clause-sized g c = c.in-Ok.ensures.ready.anyway.ready_for.siz
 pub spell_any-requires-clause-fits : goal.spell_any-requires-clause-fits
 spell_any-requires-clause-fits g c =
     let over = c.in-Ok.ensures.ready in
-    fits_next c.in-Ok.format c.catalog.result.now c.id.result over.anyway.S (rec_in c.in-Ok.ready)
-    (enough_in c.in-Ok.format (omega (arith, ap (λ (x : Catalog). x.sites) c.catalog.ensures, c.requires.most)))
+    fits_next c.in-Ok.ready.1 c.catalog.result.now c.id.result over.anyway.S (rec_in c.in-Ok.ready.0)
+    (enough_in c.in-Ok.ready.1 (omega (arith, ap (λ (x : Catalog). x.sites) c.catalog.ensures, c.requires.most)))
     over.anyway.ready_for.next
 
 -- memory ran out
@@ -168,12 +168,12 @@ returns-then-is_err g c =
 
 pub put-requires-clause-anyway : goal.put-requires-clause-anyway
 put-requires-clause-anyway g c =
-    let over = same_parts (λ x k. IsReadyOver First x k (map (λ body. body.items) c.args.bodies.now) c.in-Ok.ready c.in-Ok.format) c.catalog.result.now (catalog_in c.args.machine.now) c.id.result (site_in c.args.machine.now) (sym c.catalog.ensures) (sym c.id.ensures) c.in-Ok.ensures.ready in
+    let over = same_parts (λ x k. IsReadyOver First x k (map (λ body. body.items) c.args.bodies.now) c.in-Ok.ready.0 c.in-Ok.ready.1) c.catalog.result.now (catalog_in c.args.machine.now) c.id.result (site_in c.args.machine.now) (sym c.catalog.ensures) (sym c.id.ensures) c.in-Ok.ensures.ready in
     let m = c.args.machine.now in
     let m1 = c.make_room.new.self in
     let room = c.make_room.ensures in
-    same_parts (λ x k. IsReadyAnyway x k (tables_in m1) Restart c.in-Ok.ready) (catalog_in m) (catalog_in m1) (site_in m) (site_in m1) room.same.catalog room.same.id
-    (subst (λ (o : Option Tables). IsReadyAnyway (catalog_in m) (site_in m) o Restart c.in-Ok.ready) (sym (room.tables ∙ c.requires.down)) over.anyway)
+    same_parts (λ x k. IsReadyAnyway x k (tables_in m1) Restart c.in-Ok.ready.0) (catalog_in m) (catalog_in m1) (site_in m) (site_in m1) room.same.catalog room.same.id
+    (subst (λ (o : Option Tables). IsReadyAnyway (catalog_in m) (site_in m) o Restart c.in-Ok.ready.0) (sym (room.tables ∙ c.requires.down)) over.anyway)
 
 pub put-requires-clause-countable : goal.put-requires-clause-countable
 put-requires-clause-countable g c some =
@@ -184,12 +184,12 @@ put-requires-clause-countable g c some =
 pub put-requires-clause-spelled : goal.put-requires-clause-spelled
 put-requires-clause-spelled g c =
     let packed = made c.pack_any.result (sym c.is_err.ensures.value ∙ c.if-is_err.false) c.pack_any.ensures.packed in
-    spelled_packed {g = g.D.Disk} c.in-Ok.format c.spell_any.new.book c.pack_any.new.book _ c.in-Ok-spell_any.body c.in-Ok-spell_any.ensures.spelled
+    spelled_packed {g = g.D.Disk} c.in-Ok.ready.1 c.spell_any.new.book c.pack_any.new.book _ c.in-Ok-spell_any.body c.in-Ok-spell_any.ensures.spelled
     (c.in-Ok-spell_any.ensures.behind (map (λ body. body.items) c.args.bodies.now) c.requires.ready) packed.room
 
 pub put-requires-clause-sites : goal.put-requires-clause-sites
 put-requires-clause-sites g c =
-    enough_in c.in-Ok.format
+    enough_in c.in-Ok.ready.1
     (omega (arith, ap (λ (x : Catalog). x.sites) c.make_room.ensures.same.catalog, c.requires.most))
 
 pub returns : goal.returns
@@ -201,10 +201,10 @@ returns g c =
     let catalog = catalog_in m in
     let i = site_in m in
     let down = room.tables ∙ c.requires.down in
-    let ready = c.in-Ok.ready in
+    let ready = c.in-Ok.ready.0 in
     let same = c.spell_any.ensures.same in
     let packed = made c.pack_any.result (sym c.is_err.ensures.value ∙ c.if-is_err.false) c.pack_any.ensures.packed in
-    let format = c.in-Ok.format in
+    let format = c.in-Ok.ready.1 in
     let told = same_parts (λ x k. IsReadyOver First x k bodies ready format) c.catalog.result.now catalog c.id.result i (sym c.catalog.ensures) (sym c.id.ensures) c.in-Ok.ensures.ready in
     let over = subst (λ (h : Format). IsReadyOver h catalog i bodies ready format)
     (sym (laid_header (shape_of c.args.book.now) c.args.book.now.live)) told in

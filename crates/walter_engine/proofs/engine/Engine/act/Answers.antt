@@ -86,7 +86,7 @@ write-frames-requires-clause-room g c down = absurd (let e = sym c.prepare.ensur
 
 pub write-frames-requires-clause-sites : goal.write-frames-requires-clause-sites
 write-frames-requires-clause-sites g c =
-    enough_in c.format.result
+    enough_in c.format-format.result
     (omega (arith, ap (λ (x : Catalog). x.sites) c.prepare.ensures.same.catalog, c.args.self.now.most))
 
 pub returns : goal.returns
@@ -99,8 +99,8 @@ returns g c =
     let now = c.close_unless.ensures.same in
     let first = for_header c.args.self.now.areas c.args.self.now.capacity (catalog_in c.args.self.now.machine).sites in
     -- the format of its record is the one in force
-    let at : (S : Standing) → Stands {g = g.D.Disk} c.args.self.now S → IsFormatAt c.format.result layout S = λ S stands.
-    c.format.ensures S stands.machine (state_up S (tables_in c.args.self.now.machine) stands.machine.state ∙ c.requires.up)
+    let at : (S : Standing) → Stands {g = g.D.Disk} c.args.self.now S → IsFormatAt c.format-format.result layout S = λ S stands.
+    c.format-format.ensures S stands.machine (state_up S (tables_in c.args.self.now.machine) stands.machine.state ∙ c.requires.up)
     ∙ told_format First (catalog_in c.args.self.now.machine) (site_in c.args.self.now.machine) S stands.machine.told
     ∙ ap (λ (h : Format). format_at h S.records) (sym first) in
     record {
