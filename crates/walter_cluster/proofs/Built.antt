@@ -6,8 +6,9 @@ use Rattle.std.proofs.lemmas.Bool.{cases_lt, eqb-true, eq-eqb}
 use Rattle.std.proofs.lemmas.List.{get_or-replicate, length-replicate}
 use Rattle.std.proofs.lemmas.List.Elements.{All-map, All-same}
 use Rattle.std.proofs.lemmas.Option.{slice_get_within, slice_get-map}
+use Rattle.walter_base.specs.declared.format.Format.TheVariants.{First}
 use Rattle.walter_base.specs.declared.names.SiteId.{SiteId}
-use Rattle.walter_base.specs.Vectors.{most_sites}
+use Rattle.walter_base.specs.Sizes.{most_in}
 use Rattle.walter_cell.specs.Cells.{CellValue}
 use Rattle.walter_cell.specs.Lines.{LineValue, IsLine, is_here, is_there}
 use Rattle.walter_cell.specs.Nodes.{arms_under}
@@ -203,7 +204,7 @@ module _ {D : Type 0} (g : Ghosts D) (t : Scenario) (disks : List D) (rows : Lis
             here = λ client. ap (λ (ls : List (Option LineValue)). is_here ls client) one.lines_are ∙ here_is_home t conns lists conns_long seated homes alone homes_are i client;
           }
 
-      pub bench_built : t.catalog.sites ≤ most_sites → All (λ (client : Client). client.site.0 < t.catalog.sites) t.clients → IsBench (record { cells = cells; homes = homes })
+      pub bench_built : t.catalog.sites ≤ most_in First → All (λ (client : Client). client.site.0 < t.catalog.sites) t.clients → IsBench (record { cells = cells; homes = homes })
       bench_built few within = record {
         few = omega (arith, few, begun.long);
         cells = cell_at;
