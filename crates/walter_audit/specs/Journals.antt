@@ -1,0 +1,61 @@
+-- What the journals of all sites hold, as records, and how many commits of each site stand in one.
+use Rattle.std.specs.Prelude.{◌≡◌, ℕ, ◌-◌, nat_eq, Bool, false, List, [], ◌∷◌, count_by, flat_map, slice_get, Option, Some, None}
+use Rattle.std.specs.List.{list_all}
+use Rattle.walter_base.specs.declared.catalog.Catalog.{Catalog}
+use Rattle.walter_base.specs.declared.message.Record.{Record}
+use Rattle.walter_base.specs.declared.message.Record.TheVariants.{Own, Seen}
+use Rattle.walter_base.specs.declared.names.SiteId.{SiteId}
+use Rattle.walter_base.specs.declared.names.Tid.{Tid}
+use Rattle.walter_base.specs.declared.transaction.Tx.{Tx}
+use Rattle.walter_base.specs.Names.{same_site}
+use Rattle.walter_base.specs.Vectors.{entry_at}
+use Rattle.walter_rules.specs.Knowledge.{sites}
+use Rattle.walter_audit.specs.declared.finding.Named.{Named}
+
+-- the records of each site, in order
+abbrev pub Journals : Type 0
+Journals = SiteId → List Record
+
+-- the record of this name
+abbrev pub record_at : Journals → Named → Option Record
+record_at journals a = slice_get (journals a.site) a.index
+
+-- it is its site's own commit of this number
+abbrev pub IsOwn : Journals → Named → ℕ → Tx → Type 0
+IsOwn journals a seq tx = record_at journals a ≡ Some (Own seq tx)
+
+-- the site has an own commit of this number
+abbrev pub HasOwn : Journals → SiteId → ℕ → Type 0
+HasOwn journals j seq = (index : ℕ) × (tx : Tx) × (slice_get (journals j) index ≡ Some (Own seq tx))
+
+-- the own commits of these records, in order, and the one of this number
+abbrev pub own_of : Record → List Tx
+own_of (Own seq tx) = tx ∷ []
+own_of rec = []
+
+abbrev pub own_at : Journals → SiteId → ℕ → Option Tx
+own_at journals j seq = slice_get (flat_map own_of (journals j)) (seq - 1)
+
+-- the transaction that a record commits at its site, by its name
+abbrev pub named_by : Option Tx → List Tid
+named_by None = []
+named_by (Some tx) = tx.tid ∷ []
+
+abbrev pub record_tids : Journals → Record → List Tid
+record_tids journals (Own seq tx) = tx.tid ∷ []
+record_tids journals (Seen j seq) = named_by (own_at journals j seq)
+record_tids journals rec = []
+
+-- whether a record of site i commits one of site k's there: its own, or another's that it sees
+abbrev pub commits_of : SiteId → SiteId → Record → Bool
+commits_of i k (Own seq tx) = same_site i k
+commits_of i k (Seen j seq) = same_site j k
+commits_of i k rec = false
+
+-- how many commits of site k these records of site i tell
+abbrev pub count : SiteId → List Record → SiteId → ℕ
+count i records k = count_by (commits_of i k) records
+
+-- whether the start is the counts of these records of site i
+abbrev pub are_counts : Catalog → SiteId → List Record → List ℕ → Bool
+are_counts catalog i records start = list_all (λ k. nat_eq (count i records k) (entry_at start k)) (sites catalog)

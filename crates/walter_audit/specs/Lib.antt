@@ -1,0 +1,5 @@
+pub mod Journals
+pub mod Reasons
+pub mod Orders
+pub mod Contents
+pub mod Findings
