@@ -32,7 +32,7 @@ use Rattle.walter_audit.specs.Orders.{Item, Starts, is_shortest, start_behind, i
 use Rattle.walter_audit.specs.Reasons.{IsMissing, AreTwice, IsUnstarted}
 use Rattle.walter_audit.proofs.Numbered.{DoesCommit, counted_stands, own_place, own_found, counts_entry}
 use Rattle.walter_audit.proofs.Sorted.{OwnsApart, named_by, record_tids}
-use Rattle.walter_audit.proofs.Told.{held_in, log_told, committed_told, follows_at, own_here, own_number, got_there, count_front, count_behind}
+use Rattle.walter_audit.proofs.Telling.{held_in, log_told, committed_told, follows_at, own_here, own_number, got_there, count_front, count_behind}
 
 -- each record can follow those before it, and no reason stands but a conflict or a circle, if there is one
 pub record AreClear (catalog : Catalog) (J : Journals) : Type 0 where

@@ -33,7 +33,7 @@ use Rattle.walter_audit.proofs.Legal.{spelled, home}
 use Rattle.walter_audit.proofs.Readings.{placed_at}
 use Rattle.walter_audit.proofs.Sent.{IsSent, all_sent}
 use Rattle.walter_audit.proofs.Sorted.{item_tids, all_items}
-use Rattle.walter_audit.proofs.Told.{own_here}
+use Rattle.walter_audit.proofs.Telling.{own_here}
 use Rattle.walter_audit.proofs.Spelling.{taken_of, split, taken_in, history_log, commit_stands}
 
 -- two lists of bytes are the same or not

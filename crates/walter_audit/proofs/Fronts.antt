@@ -52,7 +52,7 @@ use Rattle.walter_audit.specs.declared.finding.Named.{Named}
 use Rattle.walter_audit.specs.Journals.{count, are_counts}
 use Rattle.walter_audit.specs.Reasons.{IsUnstarted}
 use Rattle.walter_audit.proofs.Held.{journals_of}
-use Rattle.walter_audit.proofs.Told.{committed_told}
+use Rattle.walter_audit.proofs.Telling.{committed_told}
 
 -- the start is the counts of a front of the records
 abbrev pub IsFront : Catalog → SiteId → List Record → List ℕ → Type 0

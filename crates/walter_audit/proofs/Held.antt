@@ -31,7 +31,7 @@ use Rattle.walter_runs.specs.Runs.{stands, IsPut, IsRun}
 use Rattle.walter_audit.specs.declared.finding.Named.{Named}
 use Rattle.walter_audit.specs.Journals.{Journals, HasOwn, count}
 use Rattle.walter_audit.specs.Reasons.{IsMissing, IsDifferent, AreTwice}
-use Rattle.walter_audit.proofs.Told.{held_in, log_told, committed_told, own_here, got_there, seen_there, held_own, got_held, own_held}
+use Rattle.walter_audit.proofs.Telling.{held_in, log_told, committed_told, own_here, got_there, seen_there, held_own, got_held, own_held}
 
 -- the records of each site of a run
 abbrev pub journals_of : Catalog → List InRun → Journals

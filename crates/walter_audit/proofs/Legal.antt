@@ -37,7 +37,7 @@ use Rattle.walter_audit.proofs.Items.{item_recorded, arrival_recorded, commit_it
 use Rattle.walter_audit.proofs.Numbered.{DoesCommit, counted_stands, own_place, seen_place, own_found}
 use Rattle.walter_audit.proofs.Sorted.{items_sorted, items_apart, sorted_cut, apart_cut, item_tids, record_tids, before_item}
 use Rattle.walter_audit.proofs.Spelling.{taken_of, split, taken_in, in_taken, history_push, IsHome, history_log, started_from, starts_here, committed_from, commit_stands, no_abort, no_notice, did_what_committed}
-use Rattle.walter_audit.proofs.Told.{own_here, own_number, seen_there}
+use Rattle.walter_audit.proofs.Telling.{own_here, own_number, seen_there}
 
 -- updates of a running transaction leave it running, and the history legal
 still_running : (x : Tid) (steps : List Step) (u : Update) → IsRunning x steps → IsRunning x (steps ++ Op x u ∷ [])

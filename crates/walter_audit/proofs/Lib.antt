@@ -1,4 +1,4 @@
-pub mod Told
+pub mod Telling
 pub mod Held
 pub mod Sent
 pub mod Formats
@@ -17,3 +17,7 @@ pub mod Found
 pub mod Tried
 pub mod Sums
 pub mod Quick
+pub mod Asked
+pub mod Owned
+pub mod Written
+pub mod Names

@@ -20,7 +20,7 @@ use Rattle.walter_agreement.proofs.Lists.{take_push}
 use Rattle.walter_alone.proofs.TestsPass.{is_made}
 use Rattle.walter_refinement.proofs.SameReads.{count_by-append}
 use Rattle.walter_audit.specs.Journals.{Journals, own_of, own_at, commits_of, count, are_counts}
-use Rattle.walter_audit.proofs.Told.{committed_told, follows_at, own_number, seen_there, count_behind}
+use Rattle.walter_audit.proofs.Telling.{committed_told, follows_at, own_number, seen_there, count_behind}
 
 -- the record commits site k's commit of this number at site i
 abbrev pub DoesCommit : SiteId → SiteId → ℕ → Record → Type 0

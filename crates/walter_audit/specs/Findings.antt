@@ -1,6 +1,6 @@
 -- What an audit finds: an order in which the records of all sites tell a legal history; or the first reason that stands,
 -- of its least pair of records.
-use Rattle.std.specs.Prelude.{◌≡◌, ◌<◌, ◌⊎◌, ℕ, List, flat_map, slice_get, Some}
+use Rattle.std.specs.Prelude.{◌≡◌, ◌<◌, ℕ, List, flat_map, slice_get, Some}
 use Rattle.walter_base.specs.declared.catalog.Catalog.{Catalog}
 use Rattle.walter_base.specs.declared.message.Record.TheVariants.{Own}
 use Rattle.walter_base.specs.declared.names.SiteId.{SiteId}
@@ -12,15 +12,9 @@ use Rattle.walter_audit.specs.declared.finding.Named.{Named}
 use Rattle.walter_audit.specs.declared.finding.Reason.{Reason}
 use Rattle.walter_audit.specs.declared.finding.Reason.TheVariants.{Unreadable, Missing, Differs, Twice, Start, Conflict, Cycle}
 use Rattle.walter_audit.specs.Contents.{Contents, AreAllRead, Stands}
+use Rattle.walter_audit.specs.Firsts.{IsFirstPair}
 use Rattle.walter_audit.specs.Journals.{Journals, record_tids}
 use Rattle.walter_audit.specs.Orders.{Taken, IsOrder, history}
-
--- a record before another, by site and then by place; a pair before another, by the first and then by the second
-abbrev pub IsEarlier : Named → Named → Type 0
-IsEarlier a b = (a.site.0 < b.site.0) ⊎ ((a.site ≡ b.site) × (a.index < b.index))
-
-abbrev pub IsBefore : Named → Named → Named → Named → Type 0
-IsBefore a b c d = IsEarlier a c ⊎ ((a ≡ c) × IsEarlier b d)
 
 -- the order of reasons
 abbrev pub rank : Reason → ℕ
@@ -34,8 +28,7 @@ rank Cycle = 6
 
 -- the reason stands of this pair, of none before it, and no earlier reason stands
 pub record IsNo (catalog : Catalog) (contents : Contents) (reason : Reason) (a b : Named) : Type 0 where
-  pub stands : Stands catalog contents reason a b
-  pub least : (c d : Named) → Stands catalog contents reason c d → ¬ IsBefore c d a b
+  pub stands : IsFirstPair (Stands catalog contents reason) a b
   pub first : (other : Reason) (c d : Named) → rank other < rank reason → ¬ Stands catalog contents other c d
 
 abbrev pub NoneStands : Catalog → Contents → Type 0

@@ -1,5 +1,5 @@
 -- What the journals of all sites hold, as records, and how many commits of each site stand in one.
-use Rattle.std.specs.Prelude.{◌≡◌, ℕ, ◌-◌, nat_eq, Bool, false, List, [], ◌∷◌, count_by, flat_map, slice_get, Option, Some, None}
+use Rattle.std.specs.Prelude.{◌≡◌, ℕ, zero, suc, ◌+◌, ◌-◌, nat_eq, Bool, false, List, [], ◌∷◌, count_by, flat_map, length, take, slice_get, unwrap_or, Option, Some, None}
 use Rattle.std.specs.List.{list_all}
 use Rattle.walter_base.specs.declared.catalog.Catalog.{Catalog}
 use Rattle.walter_base.specs.declared.message.Record.{Record}
@@ -35,6 +35,25 @@ own_of rec = []
 
 abbrev pub own_at : Journals → SiteId → ℕ → Option Tx
 own_at journals j seq = slice_get (flat_map own_of (journals j)) (seq - 1)
+
+-- the own commit of this number among these records, counted from 1
+abbrev pub made_in : List Record → ℕ → Option Tx
+made_in records zero = None
+made_in records (suc place) = slice_get (flat_map own_of records) place
+
+-- the own commits of each site are numbered from 1 on, in order
+abbrev pub AreNumbered : Journals → Type 0
+AreNumbered journals = (i : SiteId) (index seq : ℕ) (tx : Tx) → slice_get (journals i) index ≡ Some (Own seq tx)
+    → seq ≡ length (flat_map own_of (take index (journals i))) + 1
+
+-- and each is of its site
+abbrev pub AreAtHome : Journals → Type 0
+AreAtHome journals = (i : SiteId) (index seq : ℕ) (tx : Tx) → slice_get (journals i) index ≡ Some (Own seq tx)
+    → tx.tid.site ≡ i
+
+-- the records of each site, where these are theirs, from the first site on
+abbrev pub journals_of : List (List Record) → Journals
+journals_of all k = unwrap_or (slice_get all k.0) []
 
 -- the transaction that a record commits at its site, by its name
 abbrev pub named_by : Option Tx → List Tid

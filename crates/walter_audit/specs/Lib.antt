@@ -2,4 +2,6 @@ pub mod Journals
 pub mod Reasons
 pub mod Orders
 pub mod Contents
+pub mod Firsts
+pub mod Questions
 pub mod Findings
