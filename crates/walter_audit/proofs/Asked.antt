@@ -1,5 +1,5 @@
 -- The first record, and the first pair, of which it is so, found by going over the sites and the records of each.
-use Rattle.std.proofs.Common.{◌≡◌, ◌<◌, ◌≤◌, ◌+◌, ℕ, zero, suc, List, [], ◌∷◌, length, get_or, slice_get, Some, None, refl, ap, sym, ◌∙◌, subst, arith, inl, inr}
+use Rattle.std.proofs.Common.{◌≡◌, ◌≢◌, ◌<◌, ◌≤◌, ◌+◌, ℕ, zero, suc, List, [], ◌∷◌, length, get_or, slice_get, Some, None, refl, ap, sym, ◌∙◌, subst, arith, inl, inr}
 use Rattle.std.specs.Prelude.{Option, unwrap_or, IfSome, IfNone, IsTrue, Bool, true, false, is_some}
 use Rattle.std.proofs.lemmas.Option.{same_Some, slice_get_within}
 use Rattle.walter_base.specs.declared.message.Record.{Record}
@@ -151,3 +151,8 @@ module _ (pairs : Named → Record → Named → Record → Type 0) (J : Journal
 -- a record of each of two
 pub has_record : (J : Journals) (holds : Named → Record → Type 0) (a : Named) → IsSo holds J a → record_at J a ≡ None → ⊥
 has_record J holds a so none = (let e : ◌≡◌ {A = Option Record} None (Some so.0) = sym none ∙ so.1 in cc)
+
+-- where there is none, what is so then is so
+pub none_of : {X : Type 0} {P : Type 0} (o : Option X) → ((x : X) → o ≢ Some x) → IfNone o P → P
+none_of None other p = p
+none_of (Some x) other p = absurd (other x refl)

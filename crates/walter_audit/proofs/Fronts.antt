@@ -256,7 +256,7 @@ sessions_from Restart (Replied (Started tid)) wrote now ss c s h = inl (s, h, re
 sessions_from event outcome wrote now ss c s h = inl (s, h, refl)
 
 -- what a site has committed, as a vector, is what its records count
-range_below : (a n k : ℕ) → Contains (range_with_len a n) k → k < a + n
+pub range_below : (a n k : ℕ) → Contains (range_with_len a n) k → k < a + n
 range_below a zero k within = absurd (Contains-nil k within)
 range_below a (suc n) k within = elim (in_cases a (range_with_len (a + 1) n) k within) [
   | inl here ↦ omega (arith, here)

@@ -21,3 +21,5 @@ pub mod Asked
 pub mod Owned
 pub mod Written
 pub mod Names
+pub mod Standing
+pub mod Bodies

@@ -31,6 +31,9 @@ pub record Content : Type 0 where
 abbrev pub Contents : Type 0
 Contents = SiteId → Content
 
+abbrev pub content_of : Format → List (List ℕ) → Content
+content_of header bodies = record { header = header; bodies = bodies }
+
 -- its first bodies alone
 abbrev pub front_of : ℕ → Content → Content
 front_of n content = record { header = content.header; bodies = take n content.bodies }

@@ -51,6 +51,11 @@ abbrev pub AreAtHome : Journals → Type 0
 AreAtHome journals = (i : SiteId) (index seq : ℕ) (tx : Tx) → slice_get (journals i) index ≡ Some (Own seq tx)
     → tx.tid.site ≡ i
 
+-- the start of each own commit among these records has a number for each of so many sites
+abbrev pub AreAmong : ℕ → List Record → Type 0
+AreAmong sites records = (index seq : ℕ) (tx : Tx) → slice_get records index ≡ Some (Own seq tx)
+    → length tx.start ≡ sites
+
 -- the records of each site, where these are theirs, from the first site on
 abbrev pub journals_of : List (List Record) → Journals
 journals_of all k = unwrap_or (slice_get all k.0) []

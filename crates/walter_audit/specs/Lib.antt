@@ -4,4 +4,5 @@ pub mod Orders
 pub mod Contents
 pub mod Firsts
 pub mod Questions
+pub mod Starts
 pub mod Findings

@@ -10,6 +10,7 @@ mod laws;
 mod missing;
 mod pairing;
 mod question;
+mod starting;
 mod told;
 mod twice;
 
@@ -21,5 +22,6 @@ pub use laws::{journals_of_runs_are_clear, orders_tell_histories};
 pub use missing::{first_missing, made};
 pub use pairing::{Pairing, first_pair};
 pub use question::{Question, first_of};
+pub use starting::first_unstarted;
 pub use told::Told;
 pub use twice::first_twice;

@@ -21,7 +21,7 @@ pub trait Question {
 }
 
 /// The place of the first of a site's records of which it is so.
-fn first_in<Q: Question>(question: &Q, site: SiteId, records: &[Record]) -> Option<u64>
+pub fn first_in<Q: Question>(question: &Q, site: SiteId, records: &[Record]) -> Option<u64>
     ensures first { IfSome result (IsFirstPlace (Q.holds question.now) site records.now) }
     ensures none { IfNone result ((index : ℕ) → ¬ IsSoAt (Q.holds question.now) site records.now index) }
 {
