@@ -84,15 +84,23 @@ pub record AreAllRead (catalog : Catalog) (contents : Contents) (journals : Jour
 
 -- the reason stands, of these records
 abbrev pub Stands : Catalog → Contents → Reason → Named → Named → Type 0
-Stands catalog contents Unreadable a b = (a ≡ b) × (a.site.0 < catalog.sites) × IsUnreadable catalog a.site (contents a.site) a.index
-Stands catalog contents Missing a b = (a ≡ b) × ((journals : Journals) × AreAllRead catalog contents journals × IsMissing journals a)
-Stands catalog contents Differs a b = (journals : Journals) × AreAllRead catalog contents journals × IsDifferent journals a b
-Stands catalog contents Twice a b = (journals : Journals) × AreAllRead catalog contents journals × AreTwice journals a b
-Stands catalog contents Start a b = (a ≡ b) × ((journals : Journals) × AreAllRead catalog contents journals × IsUnstarted catalog journals a)
-Stands catalog contents Conflict a b = (journals : Journals) × AreAllRead catalog contents journals × AreUnordered journals a b
-Stands catalog contents Cycle a b = (journals : Journals) × AreAllRead catalog contents journals × IsCycle catalog journals a b
+Stands catalog contents Unreadable a b =
+    (a ≡ b) × (a.site.0 < catalog.sites) × IsUnreadable catalog a.site (contents a.site) a.index
+Stands catalog contents Missing a b =
+    (a ≡ b) × ((journals : Journals) × AreAllRead catalog contents journals × IsMissing journals a)
+Stands catalog contents Differs a b =
+    (journals : Journals) × AreAllRead catalog contents journals × IsDifferent journals a b
+Stands catalog contents Twice a b =
+    (journals : Journals) × AreAllRead catalog contents journals × AreTwice journals a b
+Stands catalog contents Start a b =
+    (a ≡ b) × ((journals : Journals) × AreAllRead catalog contents journals × IsUnstarted catalog journals a)
+Stands catalog contents Conflict a b =
+    (journals : Journals) × AreAllRead catalog contents journals × AreUnordered journals a b
+Stands catalog contents Cycle a b =
+    (journals : Journals) × AreAllRead catalog contents journals × IsCycle catalog journals a b
 
--- the records that the journal of a site that stands so may have: all that are stable, with the one in flight or without
+-- the records that the journal of a site that stands so may have: all that are stable, with the one in flight or
+-- without
 pub data MayHold (S : Standing) : List Record → Type 0 where
   holds_stable : MayHold S S.records
   holds_flight : (rec : Record) → S.flight ≡ Some rec → MayHold S (S.records ++ rec ∷ [])

@@ -1,5 +1,5 @@
--- What an audit finds: an order in which the records of all sites tell a legal history; or the first reason that stands,
--- of its least pair of records.
+-- What an audit finds: an order in which the records of all sites tell a legal history; or the first reason that
+-- stands, of its least pair of records (docs/AUDIT.md).
 use Rattle.std.specs.Prelude.{◌≡◌, ◌<◌, ℕ, List, flat_map, slice_get, Some}
 use Rattle.walter_base.specs.declared.catalog.Catalog.{Catalog}
 use Rattle.walter_base.specs.declared.message.Record.TheVariants.{Own}
@@ -34,8 +34,8 @@ pub record IsNo (catalog : Catalog) (contents : Contents) (reason : Reason) (a b
 abbrev pub NoneStands : Catalog → Contents → Type 0
 NoneStands catalog contents = (reason : Reason) (a b : Named) → ¬ Stands catalog contents reason a b
 
--- the history is that of the journals: the log of each site has the transactions of its own commits and of those that it
--- sees, in the order of its records, and each commits what its own commit says
+-- the history is that of the journals: the log of each site has the transactions of its own commits and of those that
+-- it sees, in the order of its records, and each commits what its own commit says
 pub record IsHistoryOf (journals : Journals) (steps : List Step) : Type 0 where
   pub legal : IsLegal steps
   pub logs : (i : SiteId) → log i steps ≡ flat_map (record_tids journals) (journals i)

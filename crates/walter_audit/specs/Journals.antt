@@ -1,4 +1,4 @@
--- What the journals of all sites hold, as records, and how many commits of each site stand in one.
+-- What the journals of all sites hold, as records, and how many commits of each site stand in one (docs/AUDIT.md).
 use Rattle.std.specs.Prelude.{◌≡◌, ℕ, zero, suc, ◌+◌, ◌-◌, nat_eq, Bool, false, List, [], ◌∷◌, count_by, flat_map, length, take, slice_get, unwrap_or, Option, Some, None}
 use Rattle.std.specs.List.{list_all}
 use Rattle.walter_base.specs.declared.catalog.Catalog.{Catalog}

@@ -1,5 +1,5 @@
 -- The order that an audit takes the records of all sites in: again and again the next item of the least site that can
--- go on; and the history that an order spells.
+-- go on; and the history that an order spells (docs/AUDIT.md, "The order").
 use Rattle.std.specs.Prelude.{◌≡◌, ◌<◌, ℕ, ◌+◌, Bool, not, ◌&&◌, List, [], ◌∷◌, ◌++◌, map, flat_map, filter_map, length, take, slice_get, Contains, Option, Some, None, if◌then◌else◌}
 use Rattle.std.specs.List.{list_any, range_with_len}
 use Rattle.walter_base.specs.declared.catalog.Catalog.{Catalog}
@@ -108,7 +108,8 @@ arrived i (Some tx) = Arrive tx.tid i ∷ []
 
 abbrev pub steps_of : Journals → Taken → List Step
 steps_of journals (i, Starts place tx) = Start tx.tid i ∷ []
-steps_of journals (i, Commits place seq tx) = map (λ update. Op tx.tid update) tx.updates ++ Commit tx.tid tx.updates ∷ []
+steps_of journals (i, Commits place seq tx) =
+    map (λ update. Op tx.tid update) tx.updates ++ Commit tx.tid tx.updates ∷ []
 steps_of journals (i, Arrives place j seq) = arrived i (own_at journals j seq)
 
 -- the history that an order spells

@@ -1,4 +1,5 @@
--- Why journals that can be read tell no history: each reason of a record, or of two.
+-- Why journals that can be read tell no history: each reason of a record, or of two (docs/AUDIT.md,
+-- "Reasons").
 use Rattle.std.specs.Prelude.{◌≡◌, ◌≢◌, ◌<◌, ◌≤◌, ◌⊎◌, ℕ, false, take, Some}
 use Rattle.walter_base.specs.declared.catalog.Catalog.{Catalog}
 use Rattle.walter_base.specs.declared.message.Record.TheVariants.{Got, Seen}
@@ -13,7 +14,8 @@ use Rattle.walter_audit.specs.Journals.{Journals, record_at, IsOwn, HasOwn, are_
 pub record IsMissing (journals : Journals) (a : Named) : Type 0 where
   pub from : SiteId
   pub seq : ℕ
-  pub told : ((tx : Tx) × (record_at journals a ≡ Some (Got from seq tx))) ⊎ (record_at journals a ≡ Some (Seen from seq))
+  pub told : ((tx : Tx) × (record_at journals a ≡ Some (Got from seq tx)))
+      ⊎ (record_at journals a ≡ Some (Seen from seq))
   pub unmade : ¬ HasOwn journals from seq
 
 -- it receives a commit otherwise than its site made it

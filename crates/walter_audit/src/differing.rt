@@ -18,7 +18,8 @@ use walter_base::{Record, SiteId, Tx};
 
 /// Whether the site has an own commit of this number, and it is another one.
 fn is_other(journals: &[Told], from: SiteId, seq: u64, tx: &Tx) -> bool
-    ensures { IsTrue result ↔ ((own : Transaction) × (made_in (journals_of journals.now from) seq ≡ Some own) × (tx.now ≢ own)) }
+    ensures { IsTrue result ↔ ((own : Transaction)
+        × (made_in (journals_of journals.now from) seq ≡ Some own) × (tx.now ≢ own)) }
 {
     match made(journals, from, seq) {
         Some(own) => !is_equal(tx, own),

@@ -1,3 +1,4 @@
+//! What an audit names: a record, and a reason.
 use walter_base::SiteId;
 
 /// A record, by its site and its place in that site's journal, from 0.

@@ -1,3 +1,4 @@
+//! That what a cluster leaves gives no reason, and that an order without one spells a legal history.
 ghost use Rattle.std.specs.Prelude.{List};
 ghost use Rattle.walter_audit.specs.Contents.{Contents, AreAllRead, AreLeft};
 ghost use Rattle.walter_audit.specs.Findings.{NoneStands, IsHistoryOf};
@@ -16,8 +17,8 @@ pub fn journals_of_runs_are_clear()
         → IsWhole catalog → AreLeft catalog layouts trails contents → NoneStands catalog contents }
 {}
 
-/// An order of all records of journals, where no reason stands, spells a history that parallel snapshot isolation allows,
-/// and it is that of the journals: each site's log has what its records commit, in their order.
+/// An order of all records of journals, where no reason stands, spells a history that parallel snapshot isolation
+/// allows, and it is that of the journals: each site's log has what its records commit, in their order.
 pub fn orders_tell_histories()
     ensures { (catalog : Catalog) (contents : Contents) (journals : Journals) → AreAllRead catalog contents journals
         → NoneStands catalog contents → (order : List Taken) → IsOrder catalog journals order

@@ -70,7 +70,8 @@ fn record_of(journals: &[Told], at: Named) -> Option<&Record>
 /// The first pair of records of which it is so.
 pub fn first_pair<P: Pairing>(pairing: &P, journals: &[Told]) -> Option<(Named, Named)>
     requires { length journals.now ≤ most_sites }
-    ensures first { IfSome result (λ (a, b). IsFirstPair (IsSoPair (P.pairs pairing.now) (journals_of journals.now)) a b) }
+    ensures first { IfSome result (λ (a, b).
+        IsFirstPair (IsSoPair (P.pairs pairing.now) (journals_of journals.now)) a b) }
     ensures none { IfNone result ((a b : Name) → ¬ IsSoPair (P.pairs pairing.now) (journals_of journals.now) a b) }
 {
     let a = first_of(&Paired { pairing, journals }, journals)?;

@@ -134,7 +134,8 @@ pub fn first_unstarted(alloc: Global, catalog: &Catalog, journals: &[Told]) -> M
     requires most { catalog.now.sites ≤ most_sites }
     requires among { (k : Site) → AreAmong catalog.now.sites (journals_of journals.now k) }
     ensures first { IfOk result (λ found. IfSome found (IsFirst (IsUnstarted catalog.now (journals_of journals.now)))) }
-    ensures none { IfOk result (λ found. IfNone found ((a : Name) → ¬ IsUnstarted catalog.now (journals_of journals.now) a)) }
+    ensures none { IfOk result (λ found.
+        IfNone found ((a : Name) → ¬ IsUnstarted catalog.now (journals_of journals.now) a)) }
 {
     for (number, told) in journals.iter().enumerate() {
         let site = SiteId(number as u8);

@@ -64,7 +64,8 @@ fn are_all_apart(alloc: Global, journals: &[Told]) -> Mem<bool>
 pub fn first_twice(alloc: Global, journals: &[Told]) -> Mem<Option<(Named, Named)>>
     requires most { length journals.now ≤ most_sites }
     requires home { AreAtHome (journals_of journals.now) }
-    ensures first { IfOk result (λ found. IfSome found (λ (a, b). IsFirstPair (AreTwice (journals_of journals.now)) a b)) }
+    ensures first { IfOk result (λ found.
+        IfSome found (λ (a, b). IsFirstPair (AreTwice (journals_of journals.now)) a b)) }
     ensures none { IfOk result (λ found. IfNone found ((a b : Name) → ¬ AreTwice (journals_of journals.now) a b)) }
 {
     if are_all_apart(alloc, journals)? {
