@@ -4,6 +4,7 @@ ghost use Rattle.walter_reply.specs.Replies.{FitsFrame};
 ghost use Rattle.walter_report.specs.Lists.{list_behind};
 ghost use Rattle.walter_report.specs.Pages.{Puts};
 ghost use Rattle.walter_report.specs.Reports.{reply_in};
+ghost use Rattle.walter_base.specs.Sizes.{CanBeRecorded};
 ghost use Rattle.walter_report.specs.Traces.{HasSpellings, call_word, packet_word, input_text, event_text, outcome_text, record_text, send_text, sends_text, happened_part, records_part, sends_part, trace_line};
 
 use crate::frame::Frame;

@@ -10,13 +10,13 @@ use Rattle.walter_report.proofs.frame.Frame.write_record.Goals as goal
 pub append-requires-clause-sites : goal.append-requires-clause-sites
 append-requires-clause-sites c =
     let stable = c.args.stable.now in
-    subst (λ (f : Format). FitsFormat f stable) (sym c.told_in.ensures) (fits_told stable c.requires)
+    subst (λ (f : Format). FitsFormat f stable) (sym c.told_in-format.ensures) (fits_told stable c.requires)
 
 pub invariant_of-self : goal.invariant_of-self
 invariant_of-self c =
     let stable = c.args.stable.now in
-    let format = c.told_in.result in
-    let fits = subst (λ (f : Format). FitsFormat f stable) (sym c.told_in.ensures) (fits_told stable c.requires) in
+    let format = c.told_in-format.result in
+    let fits = subst (λ (f : Format). FitsFormat f stable) (sym c.told_in-format.ensures) (fits_told stable c.requires) in
     let long : length c.append.new.out.bytes ≡ size_of_record format stable =
     ap length (c.append.ensures.bytes ∙ ap (λ t. t ++ record_spelled format stable) c.clear.ensures.bytes)
     ∙ length-record_spelled format stable fits in
