@@ -23,3 +23,4 @@ pub mod Written
 pub mod Names
 pub mod Standing
 pub mod Bodies
+pub mod Readers

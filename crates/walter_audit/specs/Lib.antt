@@ -5,4 +5,5 @@ pub mod Contents
 pub mod Firsts
 pub mod Questions
 pub mod Starts
+pub mod Reading
 pub mod Findings
