@@ -2,7 +2,7 @@
 use crate::playing::Run;
 use anyhow::{Result, bail};
 use std::alloc::Global;
-use walter_base::{MaybeRecord, Mem, Record};
+use walter_base::{Format, MaybeRecord, Mem, Record};
 use walter_checkpoint::load;
 use walter_disk_memory::MemoryDisk;
 use walter_record::decode;
@@ -118,7 +118,8 @@ fn held_by(alloc: Global, disk: MemoryDisk, scenario: &Scenario) -> Result<Strin
     };
     let mut held = String::new(alloc);
     for body in &bodies.into_vec() {
-        let Some(rec) = decode(alloc, body, sites)? else {
+        // No step of a scenario brings a journal to the second format.
+        let Some(rec) = decode(alloc, body, sites, Format::First)? else {
             bail!("a body spells no record");
         };
         held.push_str(&line_of(alloc, &rec)?)?;
