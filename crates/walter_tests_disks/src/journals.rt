@@ -2,7 +2,7 @@
 use crate::books;
 use std::alloc::Global;
 use std::test::Fail;
-use walter_base::Record;
+use walter_base::{Format, Record};
 use walter_disk_memory::MemoryDisk;
 use walter_journal::{AppendFault, Journal, JournalFault, load};
 use walter_record::decode;
@@ -187,7 +187,7 @@ fn count_of_first_commit(alloc: Global) -> Result<usize, Fail> {
 #[test]
 fn a_record_is_read_back_from_the_journal(rt: HostRuntime) -> Result<(), Fail> {
     assert_eq!(rt; count_of_first_commit(rt.alloc())?, 1);
-    let found = decode(rt.alloc(), &FIRST_COMMIT, 1)?;
+    let found = decode(rt.alloc(), &FIRST_COMMIT, 1, Format::First)?;
     assert!(rt; matches!(found, Some(Record::Own(1, _))));
     Ok(())
 }
