@@ -3,23 +3,29 @@
 -- area has a pack and, behind it, the gates and records of a journal.
 use Rattle.std.specs.Prelude.{◌≡◌, ◌≢◌, ◌⊎◌, ◌+◌, ◌-◌, ◌/◌, ◌<◌, ◌≤◌, ℕ, min, List, [], ◌∷◌, ◌++◌, length, take, drop, All}
 use Rattle.byteorder.specs.Endian.{big_number}
+use Rattle.walter_base.specs.declared.format.Format.{Format}
+use Rattle.walter_base.specs.declared.format.Format.TheVariants.{First, Second}
+use Rattle.walter_base.specs.Sizes.{most_in}
 use Rattle.walter_checkpoint.specs.Packs.{pack_of}
-use Rattle.walter_journal.specs.Layout.{header, span_of, IsShort, HasBehind, IsDamagedBehind}
+use Rattle.walter_journal.specs.Layout.{header_in, span_of, IsShort, HasBehind, IsDamagedBehind}
 use Rattle.walter_journal.specs.Layout as journal
 
--- "WALTERK1"
-abbrev pub header_of_two : List ℕ
-header_of_two = 0x57 ∷ 0x41 ∷ 0x4C ∷ 0x54 ∷ 0x45 ∷ 0x52 ∷ 0x4B ∷ 0x31 ∷ []
+-- "WALTERK1", or "WALTERK2" where the records are of the second format
+abbrev pub header_of_two : Format → List ℕ
+header_of_two First = 0x57 ∷ 0x41 ∷ 0x4C ∷ 0x54 ∷ 0x45 ∷ 0x52 ∷ 0x4B ∷ 0x31 ∷ []
+header_of_two Second = 0x57 ∷ 0x41 ∷ 0x4C ∷ 0x54 ∷ 0x45 ∷ 0x52 ∷ 0x4B ∷ 0x32 ∷ []
 
--- by what the bytes are read, beside themselves
+-- how a book lies on its disk, beside the bodies that it has
 pub record Shape : Type 0 where
-  -- the place that they may not pass
+  -- the place that its bytes may not pass
   pub capacity : ℕ
   -- how many sites there are
   pub sites : ℕ
+  -- the format that its header names
+  pub header : Format
 
-abbrev pub shape_by : ℕ → ℕ → Shape
-shape_by capacity sites = record { capacity = capacity; sites = sites }
+abbrev pub shape_by : ℕ → ℕ → Format → Shape
+shape_by capacity sites header = record { capacity = capacity; sites = sites; header = header }
 
 -- how many bytes each of two areas has
 abbrev pub area_size : Shape → ℕ
@@ -44,21 +50,24 @@ pub record HasTwo (shape : Shape) (bytes : List ℕ) (bodies : List (List ℕ)) 
   pub least : 47 ≤ shape.capacity
   pub switch : ℕ
   pub areas : List ℕ
-  pub is : bytes ≡ header_of_two ++ switch ∷ areas
+  pub is : bytes ≡ header_of_two shape.header ++ switch ∷ areas
   pub live : IsLive shape switch areas bodies
 
 -- the bytes of a book with these bodies
 abbrev pub HasContent : Shape → List ℕ → List (List ℕ) → Type 0
-HasContent shape bytes bodies = journal.HasContent bytes bodies ⊎ HasTwo shape bytes bodies
+HasContent shape bytes bodies = journal.HasContent shape.header bytes bodies ⊎ HasTwo shape bytes bodies
 
 -- with these bodies, or with one more behind them
 abbrev pub IsBeforeOrBehind : Shape → List (List ℕ) → List ℕ → List ℕ → Type 0
 IsBeforeOrBehind shape bodies body image = HasContent shape image bodies ⊎ HasContent shape image (bodies ++ body ∷ [])
 
--- they begin as no book does, or as one of two areas where the capacity is too small for these
-abbrev pub IsForeign : Shape → List ℕ → Type 0
-IsForeign shape bytes =
-    (length bytes < 9) ⊎ ((take 8 bytes ≢ header) × ((take 8 bytes ≢ header_of_two) ⊎ (shape.capacity < 47)))
+-- they begin as no book does whose format has places for so many sites, or as one of two areas where the capacity is too
+-- small for these
+abbrev pub IsForeign : (capacity sites : ℕ) → List ℕ → Type 0
+IsForeign capacity sites bytes =
+    (length bytes < 9)
+    ⊎ ((header : Format) → sites ≤ most_in header
+      → (take 8 bytes ≢ header_in header) × ((take 8 bytes ≢ header_of_two header) ⊎ (capacity < 47)))
 
 -- no list of bodies is packed at the front of these bytes, with a byte behind it
 abbrev pub HasNoPack : ℕ → List ℕ → Type 0
@@ -87,7 +96,7 @@ pub record IsTwoDamaged (shape : Shape) (bytes : List ℕ) (at claimed : ℕ) : 
   pub least : 47 ≤ shape.capacity
   pub switch : ℕ
   pub areas : List ℕ
-  pub is : bytes ≡ header_of_two ++ switch ∷ areas
+  pub is : bytes ≡ header_of_two shape.header ++ switch ∷ areas
   pub place : ℕ
   pub live :
       ((switch ≢ 1) × (at ≡ 9 + place)
@@ -96,7 +105,7 @@ pub record IsTwoDamaged (shape : Shape) (bytes : List ℕ) (at claimed : ℕ) : 
       × IsAreaDamaged shape.sites (take (area_size shape) (drop (area_size shape) areas)) place claimed)
 
 abbrev pub IsDamaged : Shape → List ℕ → ℕ → ℕ → Type 0
-IsDamaged shape bytes at claimed = journal.IsDamaged bytes at claimed ⊎ IsTwoDamaged shape bytes at claimed
+IsDamaged shape bytes at claimed = journal.IsDamaged shape.header bytes at claimed ⊎ IsTwoDamaged shape bytes at claimed
 
 -- a write of so many bytes at this place is behind what the live area has, or in the other area
 abbrev pub IsAside : Shape → ℕ → ℕ → ℕ → Type 0
@@ -108,6 +117,6 @@ pub record HasBoth (shape : Shape) (bytes : List ℕ) (bodies : List (List ℕ))
   pub least : 47 ≤ shape.capacity
   pub switch : ℕ
   pub areas : List ℕ
-  pub is : bytes ≡ header_of_two ++ switch ∷ areas
+  pub is : bytes ≡ header_of_two shape.header ++ switch ∷ areas
   pub first : HasArea shape areas bodies
   pub second : HasArea shape (drop (area_size shape) areas) bodies

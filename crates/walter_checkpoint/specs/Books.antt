@@ -2,7 +2,7 @@
 use Rattle.std.specs.Prelude.{false, ◌≡◌, ◌≢◌, ◌⊎◌, ◌+◌, ◌-◌, ◌≤◌, min, ℕ, List, [], ◌∷◌, ◌++◌, length, All}
 use Rattle.walter_disk.specs.Images.{Torn, Narrows, LeavesOnly}
 use Rattle.walter_disk.specs.declared.disk.Disk.{Ghosts}
-use Rattle.walter_checkpoint.specs.Areas.{Shape, area_size, header_of_two, HasTwo}
+use Rattle.walter_checkpoint.specs.Areas.{Shape, shape_by, area_size, header_of_two, HasTwo}
 use Rattle.walter_checkpoint.specs.Packs.{pack_of, renewed_by}
 use Rattle.walter_checkpoint.specs.declared.book.Book.{Book}
 use Rattle.walter_checkpoint.specs.declared.book.Live.{Live}
@@ -11,14 +11,14 @@ use Rattle.walter_checkpoint.specs.declared.book.Live.TheVariants.{Whole, A, B}
 use Rattle.walter_journal.specs.Journals.{capacity_of, end_of, need_of, StandsBehind}
 use Rattle.walter_journal.specs.Journals as journal
 use Rattle.walter_journal.specs.Zeros.{zeros as zeros_of, writes_of, HasGrown}
-use Rattle.walter_journal.specs.Layout.{header, span_of, IsShort, HasBehind}
+use Rattle.walter_journal.specs.Layout.{header_in, span_of, IsShort, HasBehind}
 
 -- the disk that a book is on
 abbrev pub disk_of : {D : Type 0} {g : Ghosts D} → Book D g → D
 disk_of book = journal.disk_of book.journal
 
 abbrev pub shape_of : {D : Type 0} {g : Ghosts D} → Book D g → Shape
-shape_of book = record { capacity = book.capacity; sites = book.sites }
+shape_of book = shape_by book.capacity book.sites book.format
 
 -- how many bytes are left behind its end
 abbrev pub left_of : {D : Type 0} {g : Ghosts D} → Book D g → ℕ
@@ -44,12 +44,12 @@ limit_of shape B = 9 + area_size shape + area_size shape
 
 -- what stands in front of the first gate where these bodies are packed
 abbrev pub IsFront : Shape → Live → List (List ℕ) → List ℕ → Type 0
-IsFront shape Whole packed front = (front ≡ header) × (packed ≡ [])
+IsFront shape Whole packed front = (front ≡ header_in shape.header) × (packed ≡ [])
 IsFront shape A packed front =
-    (switch : ℕ) × (switch ≢ 1) × (front ≡ header_of_two ++ switch ∷ pack_of shape.sites packed)
+    (switch : ℕ) × (switch ≢ 1) × (front ≡ header_of_two shape.header ++ switch ∷ pack_of shape.sites packed)
 IsFront shape B packed front =
     (first : List ℕ) × (length first ≡ area_size shape)
-    × (front ≡ header_of_two ++ 1 ∷ (first ++ pack_of shape.sites packed))
+    × (front ≡ header_of_two shape.header ++ 1 ∷ (first ++ pack_of shape.sites packed))
 
 -- and how many bytes that are
 abbrev pub front_length : Shape → Live → List (List ℕ) → ℕ
@@ -101,7 +101,7 @@ areas_of B = 2
 
 -- the bytes of a book of as many areas, with these bodies
 abbrev pub HasLaid : Live → Shape → List ℕ → List (List ℕ) → Type 0
-HasLaid Whole shape bytes bodies = HasBehind header bytes bodies
+HasLaid Whole shape bytes bodies = HasBehind (header_in shape.header) bytes bodies
 HasLaid A shape bytes bodies = HasTwo shape bytes bodies
 HasLaid B shape bytes bodies = HasTwo shape bytes bodies
 

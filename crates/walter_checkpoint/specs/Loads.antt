@@ -1,12 +1,13 @@
 -- What a load of a book finds and leaves (docs/FORMATS.md, "Two areas").
 use Rattle.std.specs.Prelude.{◌≡◌, ◌≢◌, ◌==◌, ◌⊎◌, ◌+◌, ◌≤◌, if◌then◌else◌, false, ℕ, List, [], ◌∷◌, ◌++◌, length, Result, Ok, Err, IfSome}
+use Rattle.walter_base.specs.Sizes.{most_in}
 use Rattle.walter_disk.specs.Disks.{DiskState}
 use Rattle.walter_disk.specs.Images.{IsDurable}
 use Rattle.walter_disk.specs.declared.disk.Disk.{Ghosts}
-use Rattle.walter_journal.specs.Layout.{header}
+use Rattle.walter_journal.specs.Layout.{header_in}
 use Rattle.walter_journal.specs.Zeros.{zeros, writes_of}
 use Rattle.walter_journal.specs.declared.fault.JournalFault.{JournalFault}
-use Rattle.walter_checkpoint.specs.Areas.{Shape, area_size, header_of_two}
+use Rattle.walter_checkpoint.specs.Areas.{Shape, shape_by, area_size, header_of_two}
 use Rattle.walter_checkpoint.specs.Books.{disk_of, IsRead, HasRoomOn}
 use Rattle.walter_checkpoint.specs.Packs.{renewed_by}
 use Rattle.walter_checkpoint.specs.declared.book.Book.{Book}
@@ -20,7 +21,8 @@ IsAreas areas capacity = (areas ≡ 1) ⊎ ((areas ≡ 2) × (47 ≤ capacity))
 
 -- the bytes of a new book
 abbrev pub new_bytes : Shape → ℕ → List ℕ
-new_bytes shape areas = if areas == 2 then header_of_two ++ zeros (1 + area_size shape) else header ++ 0 ∷ []
+new_bytes shape areas =
+    if areas == 2 then header_of_two shape.header ++ zeros (1 + area_size shape) else header_in shape.header ++ 0 ∷ []
 
 -- how many these are
 abbrev pub new_size : Shape → ℕ → ℕ
@@ -35,8 +37,13 @@ abbrev pub disk_behind : {D : Type 0} {g : Ghosts D} → Result (Book D g × Lis
 disk_behind (Ok loaded) = disk_of loaded.0
 disk_behind (Err left) = left.0
 
--- what was found is what the disk has, where it tells, and each crash leaves it
+-- how what was found lies, where it may reach so far and is of so many sites
+abbrev pub found_shape : (capacity sites : ℕ) → Found → Shape
+found_shape capacity sites found = shape_by capacity sites found.format
+
+-- what was found is what the disk has, where it tells, and each crash leaves it; its format has places for the sites
 pub record IsOpened (shape : Shape) (found : Found) (images : List ℕ → Type 0) (disk : DiskState) : Type 0 where
+  pub places : shape.sites ≤ most_in shape.header
   pub bytes : List ℕ
   pub read : IsRead shape found.live bytes found.bodies found.end
   pub told : IfSome disk.reads (λ told. bytes ≡ told)

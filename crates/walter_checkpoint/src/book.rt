@@ -7,6 +7,7 @@ ghost use Rattle.walter_checkpoint.specs.Books.{disk_of, shape_of, left_of, HasR
 ghost use Rattle.walter_journal.specs.Journals.{need_of, end_of, capacity_of, staged_of, disk_of as journal_disk};
 ghost use Rattle.walter_journal.specs.Zeros.{zeros as zeros_of, filled_disk, writes_of};
 
+use walter_base::Format;
 use walter_disk::{Disk, Failed, Mem, NoMemory};
 use walter_journal::{AppendFault, Journal};
 
@@ -52,6 +53,7 @@ pub struct Book<D: Disk> {
     pub(crate) journal: Journal<D>,
     pub(crate) capacity: u64,
     pub(crate) sites: u8,
+    pub(crate) format: Format,
     pub(crate) live: Live,
     // What `pack` writes into the other area, and zeros for what is missing in front of it.
     pub(crate) renewal: Vec<u8>,
@@ -174,6 +176,13 @@ impl<D: Disk> Book<D> {
             Live::Whole => 1,
             Live::A | Live::B => 2,
         }
+    }
+
+    /// The format that its header names.
+    pub fn format(&self) -> Format
+        ensures { result ≡ (shape_of self.now).header }
+    {
+        self.format
     }
 
     /// The disk, as it is.

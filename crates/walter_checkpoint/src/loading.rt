@@ -16,24 +16,29 @@ use std::alloc::{AllocError, Global};
 use walter_disk::{Disk, NoMemory};
 use walter_journal::{Bodies, Journal, JournalFault, begin, fill, settle_and_read};
 
-/// Loads the book of a disk, and makes an empty one on a disk of no bytes, of so many areas. A disk that has bytes is
-/// settled first, whatever happened to it, and is read as its header says. At a fault the disk comes back.
+/// Loads the book of a disk, and makes an empty one on a disk of no bytes, of so many areas and of this format. A disk that
+/// has bytes is settled first, whatever happened to it, and is read as its header says. At a fault the disk comes back.
 pub fn load<D: Disk>(
     alloc: Global,
     mut disk: D,
     capacity: u64,
     areas: u8,
     sites: u8,
+    format: Format,
 ) -> Result<(Book<D>, Bodies), (D, JournalFault)>
     requires areas { IsAreas areas capacity }
+    requires places { sites ≤ most_in format }
 
     // Where the disk tells its bytes, the book stands for the bodies.
     ensures loaded { IsSome (D.known disk).reads → IfOk result (λ it. StandsFor it.0 it.1) }
     ensures fresh { (D.known disk).size ≡ 0 → IfOk result (λ it. it.1 ≡ []) }
-    ensures made { (D.known disk).size ≡ 0 → IfOk result (λ it. areas_of it.0.live ≡ areas) }
+    ensures made { (D.known disk).size ≡ 0
+        → IfOk result (λ it. (areas_of it.0.live ≡ areas) × ((shape_of it.0).header ≡ format)) }
     ensures image { 0 < (D.known disk).size
         → OnOk result (IsImage (D.known (disk_behind result)).reads (D.may_leave disk)) }
-    ensures shape { IfOk result (λ it. shape_of it.0 ≡ shape_by capacity sites) }
+    // The header of a disk that has bytes names the format.
+    ensures shape { IfOk result (λ it. shape_of it.0 ≡ shape_by capacity sites (shape_of it.0).header) }
+    ensures places { IfOk result (λ it. sites ≤ most_in (shape_of it.0).header) }
     ensures goes_on { IfOk result (λ it. GoesOnBehind it.0 it.1) }
 
     // It may be packed: what that writes is ready, and there is room.
@@ -42,16 +47,16 @@ pub fn load<D: Disk>(
 
     // A crash while a new book is made leaves no more bytes than it has.
     ensures header { (D.known disk).size ≡ 0 → OnOk result (IfSome (D.known (disk_behind result)).reads
-        (λ bytes. bytes ≡ new_bytes (shape_by capacity sites) areas)) }
+        (λ bytes. bytes ≡ new_bytes (shape_by capacity sites format) areas)) }
     ensures first { (D.known disk).size ≡ 0 → Only [] (D.may_leave disk)
         → LeavesOnly D.moment D.left_since disk (disk_behind result)
-        (λ image. length image ≤ new_size (shape_by capacity sites) areas) }
+        (λ image. length image ≤ new_size (shape_by capacity sites format) areas) }
 
     // How many calls an arm counts: the writes and a sync on a disk of no bytes, and one read on another.
     ensures device { OnOk result (D.device_calls (disk_behind result)
-        ≡ D.device_calls disk + calls_of_load (shape_by capacity sites) areas (D.known disk).size) }
+        ≡ D.device_calls disk + calls_of_load (shape_by capacity sites format) areas (D.known disk).size) }
     ensures at_most { D.device_calls (disk_behind result)
-        ≤ D.device_calls disk + calls_of_load (shape_by capacity sites) areas (D.known disk).size }
+        ≤ D.device_calls disk + calls_of_load (shape_by capacity sites format) areas (D.known disk).size }
 
     // Whatever it answers, the disk was not settled, or reads what a crash might have left.
     ensures settled { 0 < (D.known disk).size
@@ -61,7 +66,7 @@ pub fn load<D: Disk>(
 
     // Why it failed. `books_differ` says that these exclude each other.
     ensures cause { IfErr result (λ left.
-        HasCause (shape_by capacity sites) left.1 (D.may_leave disk) (D.known disk) (D.known left.0)) }
+        HasCause capacity sites left.1 (D.may_leave disk) (D.known disk) (D.known left.0)) }
 
     ensures arms { (D.known (disk_behind result)).arms ≡ (D.known disk).arms }
     ensures tells { is_some (D.known (disk_behind result)).reads ≡ is_some (D.known disk).reads }
@@ -70,7 +75,7 @@ pub fn load<D: Disk>(
     ensures any_moment { 0 < (D.known disk).size
         → LeavesOnly D.moment D.left_since disk (disk_behind result) (D.may_leave disk) }
 {
-    match open(alloc, &mut disk, capacity, areas, sites) {
+    match open(alloc, &mut disk, capacity, areas, sites, format) {
         Ok((found, stock)) => Ok(with_found(alloc, disk, capacity, sites, found, stock)),
         Err(fault) => Err((disk, fault)),
     }
@@ -150,7 +155,7 @@ fn open<D: Disk>(
         → IsLeft (D.may_leave disk.old) (D.known disk.old) (D.known disk.new) }
     ensures faultless { OnOk result ((D.known disk.new).faults ≡ (D.known disk.old).faults) }
     ensures cause { IfErr result (λ fault.
-        HasCause (shape_by capacity sites) fault (D.may_leave disk.old) (D.known disk.old) (D.known disk.new)) }
+        HasCause capacity sites fault (D.may_leave disk.old) (D.known disk.old) (D.known disk.new)) }
     ensures arms { (D.known disk.new).arms ≡ (D.known disk.old).arms }
     ensures tells { is_some (D.known disk.new).reads ≡ is_some (D.known disk.old).reads }
     ensures any_moment { 0 < (D.known disk.old).size
@@ -218,7 +223,7 @@ fn find<D: Disk>(
         → IsLeft (D.may_leave disk.old) (D.known disk.old) (D.known disk.new) }
     ensures faultless { OnOk result ((D.known disk.new).faults ≡ (D.known disk.old).faults) }
     ensures cause { IfErr result (λ fault.
-        HasCause (shape_by capacity sites) fault (D.may_leave disk.old) (D.known disk.old) (D.known disk.new)) }
+        HasCause capacity sites fault (D.may_leave disk.old) (D.known disk.old) (D.known disk.new)) }
     ensures arms { (D.known disk.new).arms ≡ (D.known disk.old).arms }
     ensures tells { is_some (D.known disk.new).reads ≡ is_some (D.known disk.old).reads }
     ensures any_moment { 0 < (D.known disk.old).size
@@ -247,7 +252,7 @@ fn resume<D: Disk>(
     ensures settled { IsLeft (D.may_leave disk.old) (D.known disk.old) (D.known disk.new) }
     ensures faultless { OnOk result ((D.known disk.new).faults ≡ (D.known disk.old).faults) }
     ensures cause { IfErr result (λ fault.
-        HasCause (shape_by capacity sites) fault (D.may_leave disk.old) (D.known disk.old) (D.known disk.new)) }
+        HasCause capacity sites fault (D.may_leave disk.old) (D.known disk.old) (D.known disk.new)) }
     ensures arms { (D.known disk.new).arms ≡ (D.known disk.old).arms }
     ensures tells { is_some (D.known disk.new).reads ≡ is_some (D.known disk.old).reads }
     ensures any_moment { LeavesOnly D.moment D.left_since disk.old disk.new (D.may_leave disk.old) }
@@ -280,7 +285,7 @@ fn begin_book<D: Disk>(
         ≤ D.device_calls disk.old + (writes_of (new_size (shape_by capacity sites) areas) + 1) }
     ensures faultless { OnOk result ((D.known disk.new).faults ≡ (D.known disk.old).faults) }
     ensures cause { (sites : ℕ) → IfErr result (λ fault.
-        HasCause (shape_by capacity sites) fault (D.may_leave disk.old) (D.known disk.old) (D.known disk.new)) }
+        HasCause capacity sites fault (D.may_leave disk.old) (D.known disk.old) (D.known disk.new)) }
     ensures arms { (D.known disk.new).arms ≡ (D.known disk.old).arms }
     ensures tells { is_some (D.known disk.new).reads ≡ is_some (D.known disk.old).reads }
 {

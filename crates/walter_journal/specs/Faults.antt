@@ -1,5 +1,6 @@
 -- What each fault of a load says of the disk (docs/FORMATS.md, "Journal").
 use Rattle.std.specs.Prelude.{◌≡◌, ◌<◌, ℕ, List, IfSome}
+use Rattle.walter_base.specs.declared.format.Format.{Format}
 use Rattle.walter_disk.specs.Disks.{DiskState}
 use Rattle.walter_disk.specs.Images.{IsImage}
 use Rattle.walter_journal.specs.Layout.{IsForeign, IsDamaged, IsDamagedBehind}
@@ -10,7 +11,7 @@ use Rattle.walter_journal.specs.declared.fault.JournalFault.TheVariants.{Failed,
 abbrev pub IsWrong : List ℕ → JournalFault → Type 0
 IsWrong bytes Failed = ⊥
 IsWrong bytes Foreign = IsForeign bytes
-IsWrong bytes (Damaged at length) = IsDamaged bytes at length
+IsWrong bytes (Damaged at length) = (format : Format) × IsDamaged format bytes at length
 IsWrong bytes NoMemory = Unit {0}
 
 -- what a fault says of bytes that were read behind others in front
@@ -31,7 +32,8 @@ pub record Finds (P : List ℕ → Type 0) (images : List ℕ → Type 0) (old n
 abbrev pub HasCause : JournalFault → (images : List ℕ → Type 0) (old new : DiskState) → Type 0
 HasCause Failed images old new = old.faults < new.faults
 HasCause Foreign images old new = Finds IsForeign images old new
-HasCause (Damaged at length) images old new = Finds (λ bytes. IsDamaged bytes at length) images old new
+HasCause (Damaged at length) images old new =
+    Finds (λ bytes. (format : Format) × IsDamaged format bytes at length) images old new
 HasCause NoMemory images old new = new.faults ≡ old.faults
 
 -- why a call on the disk failed that judges no bytes

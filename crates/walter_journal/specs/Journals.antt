@@ -1,8 +1,9 @@
 -- What a journal on a disk stands for (docs/FORMATS.md, "Journal"): bodies that are safe, so that each crash leaves them.
 use Rattle.std.specs.Prelude.{◌≡◌, ◌==◌, ◌+◌, ◌-◌, ◌≤◌, if◌then◌else◌, ℕ, false, List, [], ◌∷◌, ◌++◌, length, Some, Result, Ok, Err, vec_capacity}
+use Rattle.walter_base.specs.declared.format.Format.{Format}
 use Rattle.walter_disk.specs.Images.{Only}
 use Rattle.walter_disk.specs.declared.disk.Disk.{Ghosts}
-use Rattle.walter_journal.specs.Layout.{HasContent, HasBehind, end_behind, span_of}
+use Rattle.walter_journal.specs.Layout.{header_in, HasBehind, span_of}
 use Rattle.walter_journal.specs.declared.fault.JournalFault.{JournalFault}
 use Rattle.walter_journal.specs.declared.journal.Journal.{Journal}
 
@@ -30,16 +31,7 @@ left_of journal = capacity_of journal - end_of journal
 abbrev pub need_of : List ℕ → ℕ
 need_of body = length body + 5
 
--- the disk tells that it has these bodies, whole, and each crash leaves what it tells
-pub record StandsFor {D : Type 0} {g : Ghosts D} (journal : Journal D g) (bodies : List (List ℕ)) : Type 0 where
-  pub bytes : List ℕ
-  pub told : (g.known (disk_of journal)).reads ≡ Some bytes
-  pub content : HasContent bytes bodies
-  pub whole : (g.known (disk_of journal)).broken ≡ false
-  pub durable : Only bytes (g.may_leave (disk_of journal))
-  pub end : end_of journal ≡ end_behind bodies
-
--- the same of bodies that stand behind other bytes than the header
+-- the disk tells that it has these bodies behind other bytes in front, whole, and each crash leaves what it tells
 pub record StandsBehind {D : Type 0} {g : Ghosts D} (front : List ℕ) (journal : Journal D g) (bodies : List (List ℕ)) : Type 0 where
   pub bytes : List ℕ
   pub told : (g.known (disk_of journal)).reads ≡ Some bytes
@@ -47,6 +39,10 @@ pub record StandsBehind {D : Type 0} {g : Ghosts D} (front : List ℕ) (journal 
   pub whole : (g.known (disk_of journal)).broken ≡ false
   pub durable : Only bytes (g.may_leave (disk_of journal))
   pub end : end_of journal ≡ length front + span_of bodies
+
+-- the same behind the header of this format
+abbrev pub StandsFor : {D : Type 0} {g : Ghosts D} → Format → Journal D g → List (List ℕ) → Type 0
+StandsFor format journal bodies = StandsBehind (header_in format) journal bodies
 
 -- there is room to append a body of so many bytes
 pub record HasRoom {D : Type 0} {g : Ghosts D} (journal : Journal D g) (n : ℕ) : Type 0 where
@@ -60,10 +56,10 @@ pub record Appends {D : Type 0} {g : Ghosts D} (old new : Journal D g) (body : L
   pub whole : (g.known (disk_of new)).broken ≡ false
   pub faultless : (g.known (disk_of new)).faults ≡ (g.known (disk_of old)).faults
   pub end : end_of new ≡ end_of old + need_of body
-  pub behind : (bodies : List (List ℕ)) → StandsFor old bodies → StandsFor new (bodies ++ body ∷ [])
 
 -- the disk behind a load, in the journal or beside the fault
-abbrev pub disk_behind : {D : Type 0} {g : Ghosts D} → Result (Journal D g × List (List ℕ)) (D × JournalFault) → D
+abbrev pub disk_behind : {D : Type 0} {g : Ghosts D}
+    → Result (Journal D g × List (List ℕ) × Format) (D × JournalFault) → D
 disk_behind (Ok loaded) = disk_of loaded.0
 disk_behind (Err left) = left.0
 

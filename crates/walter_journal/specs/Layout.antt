@@ -2,10 +2,13 @@
 -- record. A gate is one byte and is open where it is 1. What stands behind the first closed gate doesn't count.
 use Rattle.std.specs.Prelude.{◌≡◌, ◌≢◌, ◌⊎◌, ◌+◌, ◌<◌, ◌≤◌, ℕ, List, [], ◌∷◌, ◌++◌, length, take, All, flat_map, sum_by}
 use Rattle.byteorder.specs.Endian.{big_bytes, big_number}
+use Rattle.walter_base.specs.declared.format.Format.{Format}
+use Rattle.walter_base.specs.declared.format.Format.TheVariants.{First, Second}
 
--- "WALTERJ1"
-abbrev pub header : List ℕ
-header = 0x57 ∷ 0x41 ∷ 0x4C ∷ 0x54 ∷ 0x45 ∷ 0x52 ∷ 0x4A ∷ 0x31 ∷ []
+-- "WALTERJ1", or "WALTERJ2" where the records are of the second format
+abbrev pub header_in : Format → List ℕ
+header_in First = 0x57 ∷ 0x41 ∷ 0x4C ∷ 0x54 ∷ 0x45 ∷ 0x52 ∷ 0x4A ∷ 0x31 ∷ []
+header_in Second = 0x57 ∷ 0x41 ∷ 0x4C ∷ 0x54 ∷ 0x45 ∷ 0x52 ∷ 0x4A ∷ 0x32 ∷ []
 
 -- a body behind its length in four bytes, the highest first
 abbrev pub record_of : List ℕ → List ℕ
@@ -27,9 +30,9 @@ pub record HasBehind (front bytes : List ℕ) (bodies : List (List ℕ)) : Type 
   pub closed : gate ≢ 1
   pub fit : All IsShort bodies
 
--- the bytes of a journal with these bodies
-abbrev pub HasContent : List ℕ → List (List ℕ) → Type 0
-HasContent bytes bodies = HasBehind header bytes bodies
+-- the bytes of a journal with these bodies, whose header names this format
+abbrev pub HasContent : Format → List ℕ → List (List ℕ) → Type 0
+HasContent format bytes bodies = HasBehind (header_in format) bytes bodies
 
 -- how many bytes the gates and records of these bodies have, with the gate that ends them
 abbrev pub span_of : List (List ℕ) → ℕ
@@ -39,9 +42,9 @@ span_of bodies = 1 + sum_by (λ body. 5 + length body) bodies
 abbrev pub end_behind : List (List ℕ) → ℕ
 end_behind bodies = 9 + sum_by (λ body. 5 + length body) bodies
 
--- they don't begin as a journal does, with the header and a gate
+-- they don't begin as a journal does, with the header of a format and a gate
 abbrev pub IsForeign : List ℕ → Type 0
-IsForeign bytes = (length bytes < 9) ⊎ (take 8 bytes ≢ header)
+IsForeign bytes = (length bytes < 9) ⊎ ((format : Format) → take 8 bytes ≢ header_in format)
 
 -- No record and gate stand behind an open gate: the length that is claimed there is too great, or the next gate isn't
 -- within the bytes. Where fewer than four bytes stand there, 0 is told.
@@ -59,14 +62,10 @@ pub record IsDamagedBehind (front bytes : List ℕ) (at claimed : ℕ) : Type 0 
   pub place : at ≡ length (front ++ records bodies)
   pub wrong : ClaimsTooMuch behind claimed
 
--- and behind the header
-abbrev pub IsDamaged : List ℕ → ℕ → ℕ → Type 0
-IsDamaged bytes at claimed = IsDamagedBehind header bytes at claimed
+-- and behind the header of this format
+abbrev pub IsDamaged : Format → List ℕ → ℕ → ℕ → Type 0
+IsDamaged format bytes at claimed = IsDamagedBehind (header_in format) bytes at claimed
 
 -- bytes with these bodies behind others in front, or with one more behind them
 abbrev pub IsBehindOrOneMore : List ℕ → List (List ℕ) → List ℕ → List ℕ → Type 0
 IsBehindOrOneMore front bodies body image = HasBehind front image bodies ⊎ HasBehind front image (bodies ++ body ∷ [])
-
--- the bytes of a journal with these bodies, or with one more behind them
-abbrev pub IsBeforeOrBehind : List (List ℕ) → List ℕ → List ℕ → Type 0
-IsBeforeOrBehind bodies body image = HasContent image bodies ⊎ HasContent image (bodies ++ body ∷ [])

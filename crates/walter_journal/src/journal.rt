@@ -3,7 +3,7 @@ ghost use Rattle.std.specs.Prelude.{◌≡◌, ◌+◌, ◌-◌, ◌<◌, ◌≤
 ghost use Rattle.walter_disk.specs.Disks.{written, Breaks, Fails, MakesRoom, TakesRoom};
 ghost use Rattle.walter_disk.specs.Images.{Torn, Only, IsDurable, Follows, Narrows, Elapses, LeavesOnly};
 ghost use Rattle.walter_journal.specs.Zeros.{zeros as zeros_of, filled_disk, writes_of, Grows, HasGrown};
-ghost use Rattle.walter_journal.specs.Layout.{record_of, IsBeforeOrBehind, IsBehindOrOneMore};
+ghost use Rattle.walter_journal.specs.Layout.{record_of, IsBehindOrOneMore};
 
 use crate::fault::AppendFault;
 use crate::filling::fill;
@@ -24,7 +24,7 @@ pub struct Journal<D: Disk> {
 }
 
 impl<D: Disk> Journal<D> {
-    ghost use Rattle.walter_journal.specs.Journals.{disk_of, end_of, capacity_of, left_of, need_of, staged_of, StandsFor, StandsBehind, HasRoom, Appends};
+    ghost use Rattle.walter_journal.specs.Journals.{disk_of, end_of, capacity_of, left_of, need_of, staged_of, StandsBehind, HasRoom, Appends};
 
     /// The journal on a disk that has it, with the place behind its bodies.
     pub fn new(alloc: Global, disk: D, capacity: u64, end: u64) -> Journal<D>
@@ -71,9 +71,7 @@ impl<D: Disk> Journal<D> {
         ensures reach { TakesRoom 0 (D.room_end (disk_of self.old)) (D.room_end (disk_of self.new))
             (D.room_calls (disk_of self.old)) (D.room_calls (disk_of self.new)) }
         ensures staged { staged_of self.new ≡ staged_of self.old }
-        ensures stands { (bodies : List (List ℕ))
-            → StandsFor self.old bodies → StandsFor self.new bodies }
-        ensures stands_behind { (front : List ℕ) (bodies : List (List ℕ))
+        ensures stands { (front : List ℕ) (bodies : List (List ℕ))
             → StandsBehind front self.old bodies → StandsBehind front self.new bodies }
         ensures crash { Narrows (D.may_leave (disk_of self.old)) (D.may_leave (disk_of self.new)) }
         ensures any_moment { LeavesOnly D.moment D.left_since (disk_of self.old) (disk_of self.new)
@@ -92,9 +90,7 @@ impl<D: Disk> Journal<D> {
         ensures reach { OnOk result (TakesRoom 0
             (D.room_end (disk_of self.old)) (D.room_end (disk_of self.new))
             (D.room_calls (disk_of self.old)) (D.room_calls (disk_of self.new))) }
-        ensures stands { (bodies : List (List ℕ))
-            → StandsFor self.old bodies → StandsFor self.new bodies }
-        ensures stands_behind { (front : List ℕ) (bodies : List (List ℕ))
+        ensures stands { (front : List ℕ) (bodies : List (List ℕ))
             → StandsBehind front self.old bodies → StandsBehind front self.new bodies }
         ensures crash { Narrows (D.may_leave (disk_of self.old)) (D.may_leave (disk_of self.new)) }
         ensures any_moment { LeavesOnly D.moment D.left_since (disk_of self.old) (disk_of self.new)
@@ -119,9 +115,7 @@ impl<D: Disk> Journal<D> {
         ensures end { end_of self.new ≡ end_of self.old }
         ensures device { D.device_calls (disk_of self.new) ≡ D.device_calls (disk_of self.old) }
         ensures staged { staged_of self.new ≡ staged_of self.old }
-        ensures stands { (bodies : List (List ℕ))
-            → StandsFor self.old bodies → StandsFor self.new bodies }
-        ensures stands_behind { (front : List ℕ) (bodies : List (List ℕ))
+        ensures stands { (front : List ℕ) (bodies : List (List ℕ))
             → StandsBehind front self.old bodies → StandsBehind front self.new bodies }
         ensures crash { Narrows (D.may_leave (disk_of self.old)) (D.may_leave (disk_of self.new)) }
         ensures any_moment { LeavesOnly D.moment D.left_since (disk_of self.old) (disk_of self.new)
@@ -262,10 +256,7 @@ impl<D: Disk> Journal<D> {
             → StandsBehind front self.old bodies → StandsBehind front self.new (bodies ++ body.now ∷ [])) }
 
         // A crash at any moment of the call leaves the bodies from before it, with this one behind them or without.
-        ensures any_moment { (bodies : List (List ℕ)) → StandsFor self.old bodies
-            → LeavesOnly D.moment D.left_since (disk_of self.old) (disk_of self.new)
-            (IsBeforeOrBehind bodies body.now) }
-        ensures any_moment_behind { (front : List ℕ) (bodies : List (List ℕ)) → StandsBehind front self.old bodies
+        ensures any_moment { (front : List ℕ) (bodies : List (List ℕ)) → StandsBehind front self.old bodies
             → LeavesOnly D.moment D.left_since (disk_of self.old) (disk_of self.new)
             (IsBehindOrOneMore front bodies body.now) }
         ensures arms { (D.known (disk_of self.new)).arms ≡ (D.known (disk_of self.old)).arms }

@@ -9,8 +9,15 @@ use crate::fault::JournalFault;
 use byteorder::{BigEndian, ByteOrder};
 use std::alloc::Global;
 
-/// What a journal begins with, in front of its first gate.
-pub(crate) const HEADER: [u8; 8] = *b"WALTERJ1";
+/// What a journal begins with, in front of its first gate, whose records are of this format.
+pub(crate) fn header_in(format: Format) -> [u8; 8]
+    ensures { result.items ≡ header_in format }
+{
+    match format {
+        Format::First => *b"WALTERJ1",
+        Format::Second => *b"WALTERJ2",
+    }
+}
 
 /// The most bytes that a body may have.
 const LONGEST_BODY: usize = 65_536;
@@ -58,29 +65,41 @@ pub fn bodies_behind(
     Ok((bodies, bytes.len() - rest.len() + 1))
 }
 
-/// The bodies that the bytes are a journal of, and the place behind the gate that ends them.
-pub fn bodies_of(alloc: Global, bytes: &[u8]) -> Result<(Bodies, usize), JournalFault>
-    ensures ok { IfOk result (λ found.
-        HasContent bytes.now found.0 × (found.1 ≡ end_behind found.0)) }
-    ensures fault { IfErr result (IsWrong bytes.now) }
+/// The format that the header of a journal names, if the bytes begin as one does.
+fn format_of(bytes: &[u8]) -> Option<Format>
+    ensures some { IfSome result (λ format. (take 8 bytes.now ≡ header_in format) × (8 < length bytes.now)) }
+    ensures none { IfNone result (IsForeign bytes.now) }
 {
-    if bytes.len() <= HEADER.len() || !bytes.starts_with(&HEADER) {
-        return Err(JournalFault::Foreign);
-    }
-    bodies_behind(alloc, bytes, HEADER.len())
+    let formats = [Format::First, Format::Second];
+    ..
 }
 
-/// Bytes are a journal of one list of bodies, or foreign, or damaged at one place with one length. A law of the
-/// definitions, which does nothing.
+/// The bodies that the bytes are a journal of, the place behind the gate that ends them, and the format that the header
+/// names.
+pub fn bodies_of(alloc: Global, bytes: &[u8]) -> Result<(Bodies, usize, Format), JournalFault>
+    ensures ok { IfOk result (λ found.
+        HasContent found.2 bytes.now found.0 × (found.1 ≡ end_behind found.0)) }
+    ensures fault { IfErr result (IsWrong bytes.now) }
+{
+    let Some(format) = format_of(bytes) else {
+        return Err(JournalFault::Foreign);
+    };
+    let (bodies, end) = bodies_behind(alloc, bytes, 8)?;
+    Ok((bodies, end, format))
+}
+
+/// Bytes are a journal of one list of bodies behind the header of one format, or foreign, or damaged at one place with one
+/// length. A law of the definitions, which does nothing.
 pub fn layouts_differ()
-    ensures content { (bytes : List ℕ) (a b : List (List ℕ))
-        → HasContent bytes a → HasContent bytes b → a ≡ b }
-    ensures content_or_foreign { (bytes : List ℕ) (bodies : List (List ℕ))
-        → HasContent bytes bodies → IsForeign bytes → ⊥ }
-    ensures content_or_damaged { (bytes : List ℕ) (bodies : List (List ℕ)) (at claimed : ℕ)
-        → HasContent bytes bodies → IsDamaged bytes at claimed → ⊥ }
-    ensures foreign_or_damaged { (bytes : List ℕ) (at claimed : ℕ)
-        → IsForeign bytes → IsDamaged bytes at claimed → ⊥ }
-    ensures damaged { (bytes : List ℕ) (at claimed at' claimed' : ℕ)
-        → IsDamaged bytes at claimed → IsDamaged bytes at' claimed' → (at ≡ at') × (claimed ≡ claimed') }
+    ensures content { (bytes : List ℕ) (format other : Format) (a b : List (List ℕ))
+        → HasContent format bytes a → HasContent other bytes b → (format ≡ other) × (a ≡ b) }
+    ensures content_or_foreign { (bytes : List ℕ) (format : Format) (bodies : List (List ℕ))
+        → HasContent format bytes bodies → IsForeign bytes → ⊥ }
+    ensures content_or_damaged { (bytes : List ℕ) (format other : Format) (bodies : List (List ℕ)) (at claimed : ℕ)
+        → HasContent format bytes bodies → IsDamaged other bytes at claimed → ⊥ }
+    ensures foreign_or_damaged { (bytes : List ℕ) (format : Format) (at claimed : ℕ)
+        → IsForeign bytes → IsDamaged format bytes at claimed → ⊥ }
+    ensures damaged { (bytes : List ℕ) (format other : Format) (at claimed at' claimed' : ℕ)
+        → IsDamaged format bytes at claimed → IsDamaged other bytes at' claimed'
+        → (at ≡ at') × (claimed ≡ claimed') }
 {}

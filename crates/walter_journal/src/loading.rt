@@ -3,7 +3,7 @@ ghost use Rattle.std.specs.Prelude.{◌≡◌, ◌+◌, ◌<◌, ◌≤◌, ◌+
 ghost use Rattle.walter_disk.specs.Images.{Only, IsDurable, IsImage, LeavesOnly};
 ghost use Rattle.walter_journal.specs.Faults.{HasCause, IsDiskFault};
 ghost use Rattle.walter_journal.specs.Journals.{end_of, capacity_of, calls_of_load, disk_behind, StandsFor};
-ghost use Rattle.walter_journal.specs.Layout.{header, end_behind};
+ghost use Rattle.walter_journal.specs.Layout.{header_in, end_behind};
 ghost use Rattle.walter_journal.specs.Steps.{IsReady, IsLeft};
 
 use crate::bodies::Bodies;
@@ -13,19 +13,28 @@ use crate::layout::bodies_of;
 use std::alloc::Global;
 use walter_disk::{Disk, write_and_sync};
 
-/// A header and a closed gate.
-const EMPTY: [u8; 9] = *b"WALTERJ1\0";
+// A header and a closed gate.
+fn empty_in(format: Format) -> [u8; 9]
+    ensures { result.items ≡ header_in format ++ 0 ∷ [] }
+{
+    match format {
+        Format::First => *b"WALTERJ1\0",
+        Format::Second => *b"WALTERJ2\0",
+    }
+}
 
-/// Loads the journal of a disk, and makes an empty one on a disk of no bytes. A disk that has bytes is settled first,
-/// whatever happened to it. At a fault the disk comes back.
+/// Loads the journal of a disk, and makes an empty one of this format on a disk of no bytes. A disk that has bytes is
+/// settled first, whatever happened to it. Beside the bodies the format comes that the header names. At a fault the disk
+/// comes back.
 pub fn load<D: Disk>(
     alloc: Global,
     mut disk: D,
     capacity: u64,
-) -> Result<(Journal<D>, Bodies), (D, JournalFault)>
+    format: Format,
+) -> Result<(Journal<D>, Bodies, Format), (D, JournalFault)>
     // Where the disk tells its bytes, the journal stands for the bodies.
-    ensures loaded { IsSome (D.known disk).reads → IfOk result (λ it. StandsFor it.0 it.1) }
-    ensures fresh { (D.known disk).size ≡ 0 → IfOk result (λ it. it.1 ≡ []) }
+    ensures loaded { IsSome (D.known disk).reads → IfOk result (λ it. StandsFor it.2 it.0 it.1) }
+    ensures fresh { (D.known disk).size ≡ 0 → IfOk result (λ it. (it.1 ≡ []) × (it.2 ≡ format)) }
     ensures image { 0 < (D.known disk).size
         → OnOk result (IsImage (D.known (disk_behind result)).reads (D.may_leave disk)) }
     ensures capacity { IfOk result (λ it. capacity_of it.0 ≡ capacity) }
@@ -33,7 +42,7 @@ pub fn load<D: Disk>(
 
     // A new journal is the header and a closed gate. A crash while it is made leaves no more bytes than that.
     ensures header { (D.known disk).size ≡ 0
-        → OnOk result (IfSome (D.known (disk_behind result)).reads (λ bytes. bytes ≡ header ++ 0 ∷ [])) }
+        → OnOk result (IfSome (D.known (disk_behind result)).reads (λ bytes. bytes ≡ header_in format ++ 0 ∷ [])) }
     ensures first { (D.known disk).size ≡ 0 → Only [] (D.may_leave disk)
         → LeavesOnly D.moment D.left_since disk (disk_behind result) (λ image. length image ≤ 9) }
 
@@ -61,43 +70,49 @@ pub fn load<D: Disk>(
         → LeavesOnly D.moment D.left_since disk (disk_behind result) (D.may_leave disk) }
 {
     let found = if disk.size() == 0 {
-        begin(alloc, &mut disk)
+        begin(alloc, &mut disk, format)
     } else {
         resume(alloc, &mut disk)
     };
     match found {
-        Ok((bodies, end)) => Ok((Journal::new(alloc, disk, capacity, end), bodies)),
+        Ok((bodies, end, format)) => {
+            Ok((Journal::new(alloc, disk, capacity, end), bodies, format))
+        }
         Err(fault) => Err((disk, fault)),
     }
 }
 
-/// Makes an empty journal on a disk of no bytes, and gives the place behind its gate.
-pub fn begin<D: Disk>(alloc: Global, disk: &mut D) -> Result<(Bodies, u64), JournalFault>
+/// Makes an empty journal of this format on a disk of no bytes, and gives the place behind its gate.
+pub fn begin<D: Disk>(
+    alloc: Global,
+    disk: &mut D,
+    format: Format,
+) -> Result<(Bodies, u64, Format), JournalFault>
     requires { (D.known disk.old).size ≡ 0 }
-    ensures empty { IfOk result (λ found. found.0 ≡ []) }
+    ensures empty { IfOk result (λ found. (found.0 ≡ []) × (found.2 ≡ format)) }
     ensures ok { IfOk result (λ found.
-        IsReady found.0 found.1 (D.may_leave disk.new) (D.known disk.new)) }
+        IsReady found.2 found.0 found.1 (D.may_leave disk.new) (D.known disk.new)) }
     ensures faultless { OnOk result ((D.known disk.new).faults ≡ (D.known disk.old).faults) }
     ensures cause { IfErr result (λ fault.
         HasCause fault (D.may_leave disk.old) (D.known disk.old) (D.known disk.new)) }
     ensures arms { (D.known disk.new).arms ≡ (D.known disk.old).arms }
     ensures tells { is_some (D.known disk.new).reads ≡ is_some (D.known disk.old).reads }
-    ensures header { OnOk result (IfSome (D.known disk.new).reads (λ bytes. bytes ≡ header ++ 0 ∷ [])) }
+    ensures header { OnOk result (IfSome (D.known disk.new).reads (λ bytes. bytes ≡ header_in format ++ 0 ∷ [])) }
     ensures first { Only [] (D.may_leave disk.old)
         → LeavesOnly D.moment D.left_since disk.old disk.new (λ image. length image ≤ 9) }
     ensures device { OnOk result (D.device_calls disk.new ≡ D.device_calls disk.old + 2) }
     ensures at_most { D.device_calls disk.new ≤ D.device_calls disk.old + 2 }
 {
-    disk.reserve(EMPTY.len() as u64, 2)?;
-    write_and_sync(disk, 0, &EMPTY)?;
-    Ok((Bodies::new(alloc), EMPTY.len() as u64))
+    disk.reserve(9, 2)?;
+    write_and_sync(disk, 0, &empty_in(format))?;
+    Ok((Bodies::new(alloc), 9, format))
 }
 
 // Reads the journal of a disk that has bytes.
-fn resume<D: Disk>(alloc: Global, disk: &mut D) -> Result<(Bodies, u64), JournalFault>
+fn resume<D: Disk>(alloc: Global, disk: &mut D) -> Result<(Bodies, u64, Format), JournalFault>
     requires { 0 < (D.known disk.old).size }
     ensures ok { IfOk result (λ found.
-        IsReady found.0 found.1 (D.may_leave disk.new) (D.known disk.new)) }
+        IsReady found.2 found.0 found.1 (D.may_leave disk.new) (D.known disk.new)) }
     ensures settled { IsLeft (D.may_leave disk.old) (D.known disk.old) (D.known disk.new) }
     ensures image { OnOk result (IsImage (D.known disk.new).reads (D.may_leave disk.old)) }
     ensures faultless { OnOk result ((D.known disk.new).faults ≡ (D.known disk.old).faults) }
@@ -110,8 +125,8 @@ fn resume<D: Disk>(alloc: Global, disk: &mut D) -> Result<(Bodies, u64), Journal
     ensures at_most { D.device_calls disk.new ≤ D.device_calls disk.old + 1 }
 {
     let bytes = settle_and_read(alloc, disk)?;
-    let (bodies, end) = bodies_of(alloc, &bytes)?;
-    Ok((bodies, end as u64))
+    let (bodies, end, format) = bodies_of(alloc, &bytes)?;
+    Ok((bodies, end as u64, format))
 }
 
 /// All the bytes of a disk, which is settled first.
