@@ -1,5 +1,5 @@
 -- The bodies of a journal, and the records that they spell.
-use Rattle.std.proofs.Common.{◌≡◌, ℕ, zero, suc, ◌+◌, ◌<◌, List, [], ◌∷◌, ◌++◌, length, map, take, get_or, Option, Some, Result, Ok, Err, refl, ap, sym, ◌∙◌, subst}
+use Rattle.std.proofs.Common.{◌≡◌, ℕ, zero, suc, ◌+◌, ◌<◌, List, [], ◌∷◌, ◌++◌, length, map, take, get_or, true, false, Option, Some, Result, Ok, Err, refl, ap, sym, ◌∙◌, subst}
 use Rattle.std.specs.Prelude.{All, IfSome, IfErr, OnOk, slice_get, option_map}
 use Rattle.std.specs.List.{AllByRecursion}
 use Rattle.std.proofs.lemmas.List.{take-map, map_more}
@@ -17,7 +17,7 @@ use Rattle.walter_rules.specs.Knowledge.{Knowledge, fresh}
 use Rattle.walter_rules.specs.Layouts.{in_force, placed, format_at}
 use Rattle.walter_rules.specs.Learning.{format_behind, recorded}
 use Rattle.walter_rules.specs.Records.{CanFollow, CanAllFollow, replayed}
-use Rattle.walter_engine.specs.Contents.{spelled, HasSpellingThere}
+use Rattle.walter_engine.specs.Contents.{spelled, says_again, CanStandIn, HasSpellingThere}
 use Rattle.walter_engine.specs.Replays.{Takes, SpellsNone, IsUnfit, Tells, format_in}
 use Rattle.walter_engine.specs.Effects.{Tell, IsUnreadable}
 use Rattle.walter_engine.proofs.Spelled.{sized_among, spelled-push, have_more}
@@ -37,29 +37,43 @@ pub unfit : (header : Format) (tables : Tables) (body : List ℕ) (rec : Record)
     → IfErr result (IsReplayFault tables rec) → IfErr result (IsUnfit header tables body)
 unfit header tables body rec (Ok x) has is wrong = tt
 unfit header tables body rec (Err Unfit) has is wrong = λ K stands.
-    let none : Format → Type 0 = λ format. (other : Record) → HasRecordSpelling (in_force header format) (catalog_of tables).sites other
+    let none : Format → Type 0 = λ format. (other : Record) → CanStandIn (in_force header format) (catalog_of tables).sites other
     → body ≡ record_spelled (in_force header format) other → ¬ CanFollow (catalog_of tables) (site_of tables) K other in
     subst none stands.format (λ other other_has other_is follows.
     wrong K stands (subst (λ r. CanFollow (catalog_of tables) (site_of tables) K r)
-    (same_record (format_in header tables) (catalog_of tables).sites other rec other_has has (sym other_is ∙ is)) follows))
+    (same_record (format_in header tables) (catalog_of tables).sites other rec other_has.spelling has (sym other_is ∙ is)) follows))
 unfit header tables body rec (Err NoMemory) has is wrong = tt
+
+-- one whose record says again that the second format begins
+pub again : (header : Format) (tables : Tables) (body : List ℕ) (rec : Record)
+    → HasRecordSpelling (format_in header tables) (catalog_of tables).sites rec
+    → body ≡ record_spelled (format_in header tables) rec → says_again rec (format_in header tables) ≡ true
+    → IsUnfit header tables body Unfit
+again header tables body rec has is says = λ K stands.
+    let none : Format → Type 0 = λ format. (other : Record) → CanStandIn (in_force header format) (catalog_of tables).sites other
+    → body ≡ record_spelled (in_force header format) other → ¬ CanFollow (catalog_of tables) (site_of tables) K other in
+    subst none stands.format (λ other other_has other_is follows.
+    let same = same_record (format_in header tables) (catalog_of tables).sites other rec other_has.spelling has (sym other_is ∙ is) in
+    let once : says_again rec (format_in header tables) ≡ false =
+    subst (λ r. says_again r (format_in header tables) ≡ false) same other_has.once in
+    cc)
 
 -- one whose record is replayed
 takes : (header : Format) (old new : Tables) (body : List ℕ) (rec : Record)
-    → HasRecordSpelling (format_in header old) (catalog_of old).sites rec → body ≡ record_spelled (format_in header old) rec
+    → CanStandIn (format_in header old) (catalog_of old).sites rec → body ≡ record_spelled (format_in header old) rec
     → ((K : Knowledge) → Stands old K → CanFollow (catalog_of old) (site_of old) K rec) → Follows old rec new
     → Takes header old body new
 takes header old new body rec has is follows leaves = record {
   rec = rec;
-  spelling = has;
+  stands = has;
   is = is;
   follows = follows;
   leaves = λ K stands.
-      leaves K stands (follows K stands) (sized_among (format_in header old) (catalog_of old).sites rec has);
+      leaves K stands (follows K stands) (sized_among (format_in header old) (catalog_of old).sites rec has.spelling);
 }
 
 pub taken_if : (header : Format) (old new : Tables) (body : List ℕ) (rec : Record) {A E : Type 0} (result : Result A E)
-    → HasRecordSpelling (format_in header old) (catalog_of old).sites rec → body ≡ record_spelled (format_in header old) rec
+    → CanStandIn (format_in header old) (catalog_of old).sites rec → body ≡ record_spelled (format_in header old) rec
     → OnOk result ((K : Knowledge) → Stands old K → CanFollow (catalog_of old) (site_of old) K rec)
     → OnOk result (Follows old rec new) → OnOk result (Takes header old body new)
 taken_if header old new body rec (Ok x) has is follows leaves = takes header old new body rec has is follows leaves
@@ -83,9 +97,9 @@ tells_more header catalog i old new front body same_catalog same_site tells take
     let rec = takes.rec in
     let there : format_in header old ≡ format_at header tells.records =
     ap (in_force header) tells.stands.format ∙ format_told header catalog i tells.records in
-    let spelling : HasRecordSpelling (format_at header tells.records) catalog.sites rec =
-    subst (λ (f : Format). HasRecordSpelling f catalog.sites rec) there
-    (subst (λ (c : Catalog). HasRecordSpelling (format_in header old) c.sites rec) same_catalog takes.spelling) in
+    let there_stands : CanStandIn (format_at header tells.records) catalog.sites rec =
+    subst (λ (f : Format). CanStandIn f catalog.sites rec) there
+    (subst (λ (c : Catalog). CanStandIn (format_in header old) c.sites rec) same_catalog takes.stands) in
     let follows : CanFollow catalog i K rec =
     subst (λ (c : Catalog). CanFollow c i K rec) same_catalog
     (subst (λ (k : SiteId). CanFollow (catalog_of old) k K rec) same_site (takes.follows K tells.stands)) in
@@ -99,7 +113,7 @@ tells_more header catalog i old new front body same_catalog same_site tells take
         spell = ap (λ l. l ++ body ∷ []) tells.tell.spell
             ∙ ap (λ b. spelled header tells.records ++ b ∷ []) (takes.is ∙ ap (λ (f : Format). record_spelled f rec) there)
             ∙ sym (spelled-push header tells.records rec);
-        spellings = have_more header catalog.sites tells.records rec tells.tell.spellings spelling;
+        spellings = have_more header catalog.sites tells.records rec tells.tell.spellings there_stands;
         follow = follow-push catalog i fresh tells.records rec tells.tell.follow follows;
       };
       stands = subst (λ (k : Knowledge). Stands new k) (sym (replayed-push catalog i fresh tells.records rec)) leaves;
@@ -155,7 +169,7 @@ module _ (sites : ℕ) where
   one_by format (x ∷ a) (y ∷ b) all_a all_b e =
       let first : record_spelled format x ≡ record_spelled format y = cc in
       let others : spelled (format_behind x format) a ≡ spelled (format_behind y format) b = cc in
-      let same = same_record format sites x y all_a.0 all_b.0 first in
+      let same = same_record format sites x y all_a.0.spelling all_b.0.spelling first in
       let back : format_behind y format ≡ format_behind x format = ap (λ r. format_behind r format) (sym same) in
       let rest = one_by (format_behind x format) a b all_a.1 (subst (λ f. AllThere f b) back all_b.1)
       (others ∙ ap (λ f. spelled f b) back) in
@@ -185,7 +199,7 @@ spelled_take format (suc n) (rec ∷ records) =
 -- what a record at a place of a list that can stand is, and that it can follow
 record IsRecordAt (format : Format) (catalog : Catalog) (i : SiteId) (K : Knowledge) (body : List ℕ) : Type 0 where
   rec : Record
-  spelling : HasRecordSpelling format catalog.sites rec
+  stands : CanStandIn format catalog.sites rec
   is : body ≡ record_spelled format rec
   follows : CanFollow catalog i K rec
 
@@ -196,7 +210,7 @@ record_at : (catalog : Catalog) (i : SiteId) (format : Format) (K : Knowledge) (
 record_at catalog i format K [] index body all follow within = cc
 record_at catalog i format K (rec ∷ records) zero body all follow within =
     let is : body ≡ record_spelled format rec = cc in
-    record { rec = rec; spelling = all.0; is = is; follows = follow.0 }
+    record { rec = rec; stands = all.0; is = is; follows = follow.0 }
 record_at catalog i format K (rec ∷ records) (suc index) body all follow within =
     record_at catalog i (format_behind rec format) (recorded catalog i (Some rec) K) records index body all.1 follow.1 within
 
@@ -213,6 +227,6 @@ readable header catalog i bodies index records tell bad =
     (all_take catalog.sites header index records all) front in
     let there : in_force header (replayed catalog i fresh bad.records).format ≡ format_at header (take index records) =
     format_told header catalog i bad.records ∙ ap (format_at header) same in
-    bad.wrong at.rec (subst (λ f. HasRecordSpelling f catalog.sites at.rec) (sym there) at.spelling)
+    bad.wrong at.rec (subst (λ f. CanStandIn f catalog.sites at.rec) (sym there) at.stands)
     (at.is ∙ ap (λ f. record_spelled f at.rec) (sym there))
     (subst (λ rs. CanFollow catalog i (replayed catalog i fresh rs) at.rec) (sym same) at.follows)

@@ -6,13 +6,14 @@ use Rattle.walter_base.specs.declared.catalog.Catalog.{Catalog}
 use Rattle.walter_base.specs.declared.format.Format.{Format}
 use Rattle.walter_base.specs.declared.message.Record.{Record}
 use Rattle.walter_base.specs.declared.names.SiteId.{SiteId}
+use Rattle.walter_base.specs.Sizes.{most_in}
 use Rattle.walter_disk.proofs.Moments.{weaker, joined}
 use Rattle.walter_disk.specs.declared.disk.Disk.{Ghosts}
 use Rattle.walter_disk.specs.Images.{Only, IsImage, LeavesOnly}
 use Rattle.walter_engine.specs.declared.answers.BeginFault.{BeginFault}
 use Rattle.walter_engine.specs.declared.answers.BeginFault.TheVariants as unbegun
-use Rattle.walter_engine.specs.Begins.{HasOnly, MayHaveBegun, MayHaveBoot, IsBegun, IsFaultOfBegin, IsLaidOver}
-use Rattle.walter_engine.specs.Contents.{HasBodies, MayHaveNext, spelled, HasSpellingThere}
+use Rattle.walter_engine.specs.Begins.{HasOnly, BeginsBehind, MayHaveBegun, MayHaveBoot, IsBegun, IsFaultOfBegin, IsLaidOver}
+use Rattle.walter_engine.specs.Contents.{HasBodies, HasBook, headed, MayHaveNext, spelled, HasSpellingThere}
 use Rattle.walter_engine.specs.Effects.{IsRefusedOver}
 use Rattle.walter_engine.specs.Firsts.{IsAnswerTo, IsBegunOver, MayHaveFirst, not_loaded_by}
 use Rattle.walter_engine.specs.Raises.{LiesIn, Raises}
@@ -22,9 +23,9 @@ use Rattle.walter_engine.specs.declared.answers.RefusedRestart.{RefusedRestart}
 use Rattle.walter_engine.specs.declared.answers.RefusedRestart.TheVariants as refused
 use Rattle.walter_engine.proofs.Resting.{SizeIs, size_told, reads_bodies}
 use Rattle.walter_engine.proofs.Laid.{bodies_content, laid_is}
-use Rattle.walter_checkpoint.specs.Areas.{Shape, HasContent, IsForeign, IsDamaged}
+use Rattle.walter_checkpoint.specs.Areas.{Shape, HasContent, IsForeign}
 use Rattle.walter_checkpoint.specs.Books.{disk_of, shape_of, StandsFor}
-use Rattle.walter_checkpoint.specs.Faults.{HasCause}
+use Rattle.walter_checkpoint.specs.Faults.{HasCause, IsDamagedBook}
 use Rattle.walter_checkpoint.specs.Loads.{new_size}
 use Rattle.walter_checkpoint.specs.declared.book.Book.{Book}
 use Rattle.walter_checkpoint.specs.declared.book.Live.{Live}
@@ -170,30 +171,30 @@ found_is P (Some b) images bytes only told image are = subst P (only b image) ar
 
 -- what is answered where no journal was loaded
 pub begun_unloaded : (shape : Shape) (why : JournalFault) (bytes : List ℕ) (images : List ℕ → Type 0) (old new : DiskState)
-    → HasCause shape why images old new → Only bytes images → old.size ≡ length bytes → IsSome new.reads
+    → HasCause shape.capacity shape.sites why images old new → Only bytes images → old.size ≡ length bytes → IsSome new.reads
     → IsBegun shape bytes (Err (not_loaded_by why))
 begun_unloaded shape fault.Failed bytes images old new cause only size told = tt
 begun_unloaded shape fault.NoMemory bytes images old new cause only size told = tt
 begun_unloaded shape fault.Foreign bytes images old new cause only size told = (
-  found_is (IsForeign shape) new.reads images bytes only told cause.image cause.are,
+  found_is (IsForeign shape.capacity shape.sites) new.reads images bytes only told cause.image cause.are,
   λ none. absurd (omega (arith, cause.not_new, size, ap length none)),
 )
 begun_unloaded shape (fault.Damaged at length) bytes images old new cause only size told =
-    found_is (λ b. IsDamaged shape b at length) new.reads images bytes only told cause.image cause.are
+    found_is (λ b. IsDamagedBook shape.capacity shape.sites b at length) new.reads images bytes only told cause.image cause.are
 
-pub unbegun_faults : (shape : Shape) (why : JournalFault) (images : List ℕ → Type 0) (old new : DiskState)
-    → HasCause shape why images old new
+pub unbegun_faults : (capacity sites : ℕ) (why : JournalFault) (images : List ℕ → Type 0) (old new : DiskState)
+    → HasCause capacity sites why images old new
     → IsFaultOfBegin (Err (not_loaded_by why)) old.faults new.faults
-unbegun_faults shape fault.Failed images old new cause = cause
-unbegun_faults shape fault.NoMemory images old new cause = cause
-unbegun_faults shape fault.Foreign images old new cause = cause.faultless
-unbegun_faults shape (fault.Damaged at length) images old new cause = cause.faultless
+unbegun_faults capacity sites fault.Failed images old new cause = cause
+unbegun_faults capacity sites fault.NoMemory images old new cause = cause
+unbegun_faults capacity sites fault.Foreign images old new cause = cause.faultless
+unbegun_faults capacity sites (fault.Damaged at length) images old new cause = cause.faultless
 
 -- what is answered over bodies
 pub begun_over : (shape : Shape) (bytes : List ℕ) (bodies : List (List ℕ)) (answer : Result (Unit {0}) BeginFault)
-    → HasContent shape bytes bodies ⊎ ((bytes ≡ []) × (bodies ≡ [])) → IsBegunOver bodies answer
+    → HasBook shape bytes bodies ⊎ ((bytes ≡ []) × (bodies ≡ [])) → IsBegunOver bodies answer
     → IsBegun shape bytes answer
-begun_over shape bytes bodies (Ok done) (inl has) is = inr (subst (λ b. HasContent shape bytes b) is has)
+begun_over shape bytes bodies (Ok done) (inl has) is = inr (subst (λ b. HasBook shape bytes b) is has)
 begun_over shape bytes bodies (Ok done) (inr none) is = inl none.0
 begun_over shape bytes bodies (Err unbegun.Failed) has is = tt
 begun_over shape bytes bodies (Err unbegun.Foreign) has is = absurd is
@@ -243,7 +244,8 @@ module _ {D : Type 0} {g : Ghosts D} (size_is : SizeIs g) (shape : Shape) (areas
 
 -- a book that was loaded
 module _ {D : Type 0} {g : Ghosts D} (size_is : SizeIs g) (shape : Shape) (areas : ℕ) (disk : D) (book : Book D g)
-    (shape_is : shape_of book ≡ shape) (loaded slice : List (List ℕ)) (bytes : List ℕ) (only : HasOnly g bytes disk)
+    (shape_is : shape_of book ≡ headed (shape_of book).header shape) (places : shape.sites ≤ most_in (shape_of book).header)
+    (new : (g.known disk).size ≡ 0 → (shape_of book).header ≡ shape.header) (loaded slice : List (List ℕ)) (bytes : List ℕ) (only : HasOnly g bytes disk)
     (stands : StandsFor book slice) (same : slice ≡ loaded) (fresh : (g.known disk).size ≡ 0 → loaded ≡ [])
     (image : 0 < (g.known disk).size → IsImage (g.known (disk_of book)).reads (g.may_leave disk)) where
   abbrev reads : List ℕ
@@ -262,41 +264,65 @@ module _ {D : Type 0} {g : Ghosts D} (size_is : SizeIs g) (shape : Shape) (areas
           let some : 0 < (g.known disk).size = omega (arith, size, ap length is) in
           inl (only.only reads (subst (λ reads. IsImage reads (g.may_leave disk)) stands.with.stands.told (image some)))
 
-  laid : HasBodies (layout_by shape book.live) reads slice
-  laid =
-      subst (λ (s : Shape). HasBodies (layout_by s book.live) reads slice) shape_is (reads_bodies g book slice stands)
+  laid : HasBodies (layout_of book) reads slice
+  laid = reads_bodies g book slice stands
 
-  content : HasContent shape reads slice
-  content = bodies_content shape (layout_by shape book.live) reads slice (laid_is shape book.live) laid
+  content : HasContent (headed (shape_of book).header shape) reads slice
+  content =
+      subst (λ (s : Shape). HasContent s reads slice) shape_is
+      (bodies_content (shape_of book) (layout_of book) reads slice (laid_is (shape_of book) book.live) laid)
 
-  pub content_or_new : HasContent shape bytes slice ⊎ ((bytes ≡ []) × (slice ≡ []))
-  content_or_new = ⊎_elim (λ is. inl (subst (λ b. HasContent shape b slice) is content)) (λ new. inr new) has_same
+  pub content_or_new : HasBook shape bytes slice ⊎ ((bytes ≡ []) × (slice ≡ []))
+  content_or_new =
+      ⊎_elim
+      (λ is. inl (record {
+        header = (shape_of book).header;
+        places = places;
+        content = subst (λ b. HasContent (headed (shape_of book).header shape) b slice) is content;
+      }))
+      (λ made. inr made) has_same
 
   -- and is laid out as these are, or as was asked for
-  pub laid_over : (asked : Layout) → slice ≡ [] → ((g.known disk).size ≡ 0 → layout_by shape book.live ≡ asked)
-      → IsLaidOver bytes asked (layout_by shape book.live)
-  laid_over asked none new =
-      ⊎_elim (λ is. inr (subst (λ l. HasBodies (layout_by shape book.live) bytes l) none
-      (subst (λ b. HasBodies (layout_by shape book.live) b slice) is laid)))
-      (λ made. inl (made.0, new (size_told g size_is disk bytes only.told ∙ ap length made.0))) has_same
+  pub laid_over : (asked : Layout) → slice ≡ [] → ((g.known disk).size ≡ 0 → layout_of book ≡ asked)
+      → IsLaidOver bytes asked (layout_of book)
+  laid_over asked none made_so =
+      ⊎_elim (λ is. inr (subst (λ l. HasBodies (layout_of book) bytes l) none
+      (subst (λ b. HasBodies (layout_of book) b slice) is laid)))
+      (λ made. inl (made.0, made_so (size_told g size_is disk bytes only.told ∙ ap length made.0))) has_same
 
-  first_may : (reads ≡ bytes) ⊎ ((bytes ≡ []) × (slice ≡ [])) → (image : List ℕ) → MayHaveFirst shape reads slice image
-      → MayHaveBegun shape areas bytes image
+  -- its header is that of the bytes, or the one that was asked for
+  behind : slice ≡ [] → (reads ≡ bytes) ⊎ ((bytes ≡ []) × (slice ≡ [])) → BeginsBehind shape bytes (shape_of book).header
+  behind none (inl same) =
+      inr (
+        places,
+        subst (λ bodies. HasContent (headed (shape_of book).header shape) bytes bodies) none
+            (subst (λ b. HasContent (headed (shape_of book).header shape) b slice) same content),
+      )
+  behind none (inr made) = inl (made.0, new (size_told g size_is disk bytes only.told ∙ ap length made.0))
+
+  first_may : (reads ≡ bytes) ⊎ ((bytes ≡ []) × (slice ≡ [])) → (image : List ℕ)
+      → MayHaveFirst (headed (shape_of book).header shape) reads slice image → MayHaveBegun shape areas bytes image
   first_may (inl same) image (inl is) = inl (is ∙ same)
-  first_may (inl same) image (inr has) =
-      inr (inr (inr (subst (λ b. HasContent shape b []) same (subst (λ bodies. HasContent shape reads bodies) has.0 content)), has.1))
-  first_may (inr new) image (inl is) =
-      inr (inr (inl new.0, inl (subst (λ b. HasContent shape b []) (sym is) (subst (λ bodies. HasContent shape reads bodies) new.1 content))))
-  first_may (inr new) image (inr has) = inr (inr (inl new.0, has.1))
+  first_may (inl same) image (inr has) = inr (inr ((shape_of book).header, behind has.0 (inl same), has.1))
+  first_may (inr made) image (inl is) =
+      inr (inr (
+        (shape_of book).header,
+        behind made.1 (inr made),
+        inl (subst (λ b. HasContent (headed (shape_of book).header shape) b []) (sym is)
+            (subst (λ bodies. HasContent (headed (shape_of book).header shape) reads bodies) made.1 content)),
+      ))
+  first_may (inr made) image (inr has) = inr (inr ((shape_of book).header, behind has.0 (inr made), has.1))
 
   -- a crash within it leaves the bytes, or the first ones of a book, or no record, or the first Boot
   pub leaves_begun : (after : D) → LeavesOnly g.moment g.left_since disk (disk_of book) (MayHaveBegun shape areas bytes)
-      → LeavesOnly g.moment g.left_since (disk_of book) after (MayHaveFirst shape reads slice)
+      → LeavesOnly g.moment g.left_since (disk_of book) after (MayHaveFirst (shape_of book) reads slice)
       → LeavesOnly g.moment g.left_since disk after (MayHaveBegun shape areas bytes)
   leaves_begun after load run =
       joined g.moment g.left_since disk (disk_of book) after (MayHaveBegun shape areas bytes) load
-      (weaker g.moment g.left_since (disk_of book) after (MayHaveFirst shape reads slice) (MayHaveBegun shape areas bytes)
-      (first_may has_same) run)
+      (weaker g.moment g.left_since (disk_of book) after (MayHaveFirst (shape_of book) reads slice)
+      (MayHaveBegun shape areas bytes)
+      (λ image may.
+      first_may has_same image (subst (λ (s : Shape). MayHaveFirst s reads slice image) shape_is may)) run)
 
 -- what a crash within a restart over no bodies leaves, in the words of a first restart
 pub first_next : (shape : Shape) (catalog : Catalog) (live : Live) (i : SiteId) (image : List ℕ)

@@ -1,12 +1,12 @@
 -- A restart from the disk of a site that is down.
-use Rattle.std.proofs.Common.{◌≡◌, ℕ, ◌+◌, ◌<◌, ◌≢◌, List, [], ◌∷◌, ◌++◌, map, length, false, Option, Some, None, refl, ap, sym, ◌∙◌, subst, inl, inr, ◌⊎◌, ⊎_elim, arith}
+use Rattle.std.proofs.Common.{◌≡◌, ℕ, ◌+◌, ◌<◌, ◌≤◌, ◌≢◌, List, [], ◌∷◌, ◌++◌, map, length, false, Option, Some, None, refl, ap, sym, ◌∙◌, subst, inl, inr, ◌⊎◌, ⊎_elim, arith}
 use Rattle.std.specs.Prelude.{IfSome, IsSome, is_some}
 use Rattle.std.proofs.lemmas.List.{length-append}
 use Rattle.walter_base.specs.declared.catalog.Catalog.{Catalog}
 use Rattle.walter_base.specs.declared.format.Format.{Format}
-use Rattle.walter_base.specs.declared.format.Format.TheVariants.{First}
 use Rattle.walter_base.specs.declared.message.Record.{Record}
 use Rattle.walter_base.specs.declared.names.SiteId.{SiteId}
+use Rattle.walter_base.specs.Sizes.{most_in}
 use Rattle.walter_disk.proofs.Moments.{weaker, joined}
 use Rattle.walter_disk.specs.declared.disk.Disk.{Ghosts}
 use Rattle.walter_disk.specs.Disks.{DiskState}
@@ -14,7 +14,7 @@ use Rattle.walter_disk.specs.Images.{IsImage, LeavesOnly}
 use Rattle.walter_engine.specs.declared.answers.RefusedRestart.{RefusedRestart}
 use Rattle.walter_engine.specs.declared.answers.RefusedRestart.TheVariants as refused
 use Rattle.walter_engine.specs.declared.engine.Engine.{Engine}
-use Rattle.walter_engine.specs.Contents.{AreSpelled, HasBodies, MayHaveRecords, MayHaveNext, spelled}
+use Rattle.walter_engine.specs.Contents.{AreSpelled, HasBodies, HasBook, headed, MayHaveRecords, MayHaveNext, spelled}
 use Rattle.walter_engine.specs.Effects.{HasCome, IsRefusedOver, IsRefusedFor}
 use Rattle.walter_engine.specs.Engines.{Stands, catalog_in, layout_in}
 use Rattle.walter_engine.specs.Raises.{LiesIn, Raises, calls_before, unloaded_by}
@@ -22,17 +22,18 @@ use Rattle.walter_engine.specs.Restarts.{ComesOf, RestartsOver, left_over}
 use Rattle.walter_engine.specs.Stores.{IsOnDisk, IsStored, IsLeft, book_if, disk_if, layout_by, layout_of}
 use Rattle.walter_engine.proofs.Crashes.{settled_next}
 use Rattle.walter_engine.proofs.Resting.{SizeIs, size_told, reads_bodies}
-use Rattle.walter_engine.proofs.Laid.{IsLayoutOf, bodies_content, laid_is, one_layout}
+use Rattle.walter_engine.proofs.Laid.{IsLayoutOf, bodies_content, laid_is, laid_header, one_layout}
 use Rattle.walter_engine.proofs.Spelled.{Behind, length-spelled, spelled_settled}
 use Rattle.walter_engine.proofs.Taking.{is_full}
 use Rattle.walter_journal.specs.declared.fault.JournalFault.{JournalFault}
 use Rattle.walter_journal.specs.declared.fault.JournalFault.TheVariants as fault
 use Rattle.walter_journal.specs.Faults.{Finds}
-use Rattle.walter_checkpoint.specs.Areas.{Shape, HasContent, IsForeign, IsDamaged}
+use Rattle.walter_checkpoint.specs.Areas.{Shape, HasContent, IsForeign}
 use Rattle.walter_checkpoint.specs.Books.{disk_of, shape_of, calls_of_pack, StandsFor}
-use Rattle.walter_checkpoint.specs.Faults.{HasCause}
+use Rattle.walter_checkpoint.specs.Faults.{HasCause, IsDamagedBook}
 use Rattle.walter_checkpoint.specs.declared.book.Book.{Book}
 use Rattle.walter_checkpoint.specs.declared.book.Live.{Live}
+use Rattle.walter_checkpoint.specs.declared.book.Live.TheVariants.{Whole, A, B}
 use Rattle.walter_machine.specs.Comings.{is_faulty, RisesIf, IsRest}
 use Rattle.walter_site.specs.Members.{IsShortOutcome}
 use Rattle.walter_machine.specs.Machines.{is_up, AreFound}
@@ -48,15 +49,18 @@ use Rattle.walter_rules.specs.Trails.{Comes, IsFound, TakesMemory, only}
 -- the laws of a book's bytes
 abbrev pub OneContent : Shape → Type 0
 OneContent shape =
-    (bytes : List ℕ) (a b : List (List ℕ)) → HasContent shape bytes a → HasContent shape bytes b → a ≡ b
+    (header other : Format) (bytes : List ℕ) (a b : List (List ℕ)) → HasContent (headed header shape) bytes a
+    → HasContent (headed other shape) bytes b → (header ≡ other) × (a ≡ b)
 
 abbrev pub NotForeign : Shape → Type 0
-NotForeign shape = (bytes : List ℕ) (bodies : List (List ℕ)) → HasContent shape bytes bodies → IsForeign shape bytes → ⊥
+NotForeign shape =
+    (bytes : List ℕ) (bodies : List (List ℕ)) → HasContent shape bytes bodies
+    → IsForeign shape.capacity shape.sites bytes → ⊥
 
 abbrev pub NotDamaged : Shape → Type 0
 NotDamaged shape =
     (bytes : List ℕ) (bodies : List (List ℕ)) (at claimed : ℕ) → HasContent shape bytes bodies
-    → IsDamaged shape bytes at claimed → ⊥
+    → IsDamagedBook shape.capacity shape.sites bytes at claimed → ⊥
 
 -- ---- what was found
 
@@ -66,19 +70,23 @@ AreThere header S bodies =
     (bodies ≡ spelled header S.records)
     ⊎ ((rec : Record) × (S.flight ≡ Some rec) × (bodies ≡ spelled header (S.records ++ rec ∷ [])))
 
+of_one : (shape : Shape) → OneContent shape → (bytes : List ℕ) (a b : List (List ℕ)) → HasContent shape bytes a
+    → HasContent shape bytes b → a ≡ b
+of_one shape one bytes a b has_a has_b = (one shape.header shape.header bytes a b has_a has_b).1
+
 -- what may be there is what was found
 there : (shape : Shape) → OneContent shape → (layout : Layout) → IsLayoutOf shape layout → (S : Standing)
     (flight : Option Record) → S.flight ≡ flight → (bytes : List ℕ) (bodies : List (List ℕ))
     → MayHaveRecords layout S.records flight bytes → HasContent shape bytes bodies → AreThere (header_of layout) S bodies
 there shape one layout of_ S None is bytes bodies has content =
-    inl (one bytes bodies (spelled (header_of layout) S.records) content (bodies_content shape layout bytes _ of_ has))
+    inl (of_one shape one bytes bodies (spelled (header_of layout) S.records) content (bodies_content shape layout bytes _ of_ has))
 there shape one layout of_ S (Some rec) is bytes bodies (inl has) content =
-    inl (one bytes bodies (spelled (header_of layout) S.records) content (bodies_content shape layout bytes _ of_ has))
+    inl (of_one shape one bytes bodies (spelled (header_of layout) S.records) content (bodies_content shape layout bytes _ of_ has))
 there shape one layout of_ S (Some rec) is bytes bodies (inr has) content =
     inr (
       rec,
       is,
-      one bytes bodies (spelled (header_of layout) (S.records ++ rec ∷ [])) content (bodies_content shape layout bytes _ of_ has),
+      of_one shape one bytes bodies (spelled (header_of layout) (S.records ++ rec ∷ [])) content (bodies_content shape layout bytes _ of_ has),
     )
 
 pub found_there : (header : Format) (S : Standing) (bodies : List (List ℕ)) → AreThere header S bodies
@@ -155,7 +163,7 @@ with_kept catalog layout i S event came kept (Comes.full rec brings less is) =
 
 -- bytes with bodies for which it is refused
 refused_for : (catalog : Catalog) (shape : Shape) (i : SiteId) (bytes : List ℕ) (bodies : List (List ℕ))
-    (why : RefusedRestart) → HasContent shape bytes bodies → IsRefusedOver First catalog i bodies why
+    (why : RefusedRestart) (book : HasBook shape bytes bodies) → IsRefusedOver book.header catalog i bodies why
     → IsRefusedFor catalog shape i bytes why
 refused_for catalog shape i bytes bodies refused.Foreign content over = absurd over
 refused_for catalog shape i bytes bodies (refused.Damaged at length) content over = absurd over
@@ -169,7 +177,7 @@ always Q (Some x) so = so x
 
 -- a book that was not loaded
 pub refused_unloaded : (catalog : Catalog) (shape : Shape) (i : SiteId) (why : JournalFault) (images : List ℕ → Type 0)
-    (old new : DiskState) → HasCause shape why images old new
+    (old new : DiskState) → HasCause shape.capacity shape.sites why images old new
     → IfSome new.reads (λ bytes. IfSome (unloaded_by why).1 (IsRefusedFor catalog shape i bytes))
 refused_unloaded catalog shape i fault.Failed images old new cause = always _ new.reads (λ bytes. tt)
 refused_unloaded catalog shape i fault.Foreign images old new cause = cause.are
@@ -183,13 +191,13 @@ unloaded_is fault.NoMemory = (tt, tt, refl, λ e. absurd (cc))
 unloaded_is fault.Foreign = (tt, tt, refl, λ e. refl)
 unloaded_is (fault.Damaged at length) = (tt, tt, refl, λ e. refl)
 
-pub unloaded_faults : (shape : Shape) (why : JournalFault) (images : List ℕ → Type 0) (old new : DiskState)
-    → HasCause shape why images old new
+pub unloaded_faults : (capacity sites : ℕ) (why : JournalFault) (images : List ℕ → Type 0) (old new : DiskState)
+    → HasCause capacity sites why images old new
     → RisesIf (is_faulty (unloaded_by why).0) old.faults new.faults
-unloaded_faults shape fault.Failed images old new cause = cause
-unloaded_faults shape fault.NoMemory images old new cause = cause
-unloaded_faults shape fault.Foreign images old new cause = cause.faultless
-unloaded_faults shape (fault.Damaged at length) images old new cause = cause.faultless
+unloaded_faults capacity sites fault.Failed images old new cause = cause
+unloaded_faults capacity sites fault.NoMemory images old new cause = cause
+unloaded_faults capacity sites fault.Foreign images old new cause = cause.faultless
+unloaded_faults capacity sites (fault.Damaged at length) images old new cause = cause.faultless
 
 -- the calls of the load come before the others
 pub calls_of_restart : (wrote : Option Record) (load before old mid new : ℕ) → mid ≡ old + load
@@ -197,8 +205,16 @@ pub calls_of_restart : (wrote : Option Record) (load before old mid new : ℕ) �
 calls_of_restart (Some rec) load before old mid new is calls = omega (arith, is, calls)
 calls_of_restart None load before old mid new is calls = tt
 
+-- a header changes nothing of them
+calls_headed : (header : Format) (shape : Shape) (live : Live) (size : ℕ)
+    → calls_of_pack (headed header shape) live size ≡ calls_of_pack shape live size
+calls_headed header shape Whole size = refl
+calls_headed header shape A size = refl
+calls_headed header shape B size = refl
+
 -- those of a pack, by how many bytes the disk has then
-pub packs_are : {D : Type 0} {g : Ghosts D} (shape : Shape) (book : Book D g) (bodies : List (List ℕ)) → shape_of book ≡ shape
+pub packs_are : {D : Type 0} {g : Ghosts D} (shape : Shape) (book : Book D g) (bodies : List (List ℕ))
+    → shape_of book ≡ headed (shape_of book).header shape
     → (calls_before book bodies ≡ 0)
     ⊎ ((live : Live) × (now : ℕ) × (calls_before book bodies ≡ calls_of_pack shape live now))
 packs_are shape book [] is = inl refl
@@ -206,7 +222,8 @@ packs_are {g = g} shape book (body ∷ bodies) is =
     inr (
       book.live,
       (g.known (disk_of book)).size,
-      ap (λ (s : Shape). calls_of_pack s book.live (g.known (disk_of book)).size) is,
+      ap (λ (s : Shape). calls_of_pack s book.live (g.known (disk_of book)).size) is
+          ∙ calls_headed (shape_of book).header shape book.live (g.known (disk_of book)).size,
     )
 
 -- what was found wrong can't be
@@ -236,9 +253,8 @@ module _ {D : Type 0} {g : Ghosts D} where
 
   -- ---- over a book that was loaded
 
-  module _ (shape : Shape) (one : OneContent shape) (layout : Layout) (of_ : IsLayoutOf shape layout)
-      (first : header_of layout ≡ First) (S : Standing)
-      (disk : D) (book : Book D g) (shape_is : shape_of book ≡ shape) (bodies : List (List ℕ))
+  module _ (shape : Shape) (one : OneContent shape) (layout : Layout) (of_ : IsLayoutOf shape layout) (S : Standing)
+      (disk : D) (book : Book D g) (found : shape_of book ≡ headed (shape_of book).header shape) (bodies : List (List ℕ))
       (resting : IsOnDisk g layout S disk) (image : IsImage (g.known (disk_of book)).reads (g.may_leave disk))
       (stands : StandsFor book bodies) where
     bytes : List ℕ
@@ -247,6 +263,18 @@ module _ {D : Type 0} {g : Ghosts D} where
     was : MayHaveRecords layout S.records S.flight bytes
     unfolding bytes
     was = resting.images bytes (subst (λ reads. IsImage reads (g.may_leave disk)) stands.with.stands.told image)
+
+    -- its header is the one that was asked for
+    shape_is : shape_of book ≡ shape
+    unfolding bytes
+    shape_is =
+        let some = some_bodies layout S.records S.flight bytes was in
+        let here = bodies_content (shape_of book) (layout_of book) bytes bodies (laid_is (shape_of book) book.live)
+        (reads_bodies g book bodies stands) in
+        found ∙ ap (λ (h : Format). headed h shape)
+        (one (shape_of book).header shape.header bytes bodies some.0
+        (subst (λ (s : Shape). HasContent s bytes bodies) found here)
+        (bodies_content shape layout bytes some.0 of_ some.1)).0
 
     now : HasBodies (layout_by shape book.live) bytes bodies
     unfolding bytes
@@ -262,7 +290,7 @@ module _ {D : Type 0} {g : Ghosts D} where
     laid_loaded =
         let some = some_bodies layout S.records S.flight bytes was in
         ap (λ (s : Shape). layout_by s book.live) shape_is
-        ∙ one_layout shape layout book.live bytes some.0 bodies of_ first some.1 now
+        ∙ one_layout shape layout book.live bytes some.0 bodies of_ some.1 now
 
     -- behind the count of the bodies
     pub lies_settled : (catalog : Catalog) (i : SiteId) (kept : Option Record) → AreSpelled (header_of layout) catalog.sites S
@@ -311,14 +339,15 @@ module _ {D : Type 0} {g : Ghosts D} where
 
   -- where it is refused, the bytes that the disk has are the cause
   pub refused_loaded : (catalog : Catalog) (shape : Shape) (i : SiteId) (disk after : D) (book : Book D g)
-      (bodies : List (List ℕ)) (why : Option RefusedRestart) → shape_of book ≡ shape
+      (bodies : List (List ℕ)) (why : Option RefusedRestart) → shape_of book ≡ headed (shape_of book).header shape
+      → shape.sites ≤ most_in (shape_of book).header
       → (IsSome (g.known disk).reads → StandsFor book bodies)
       → is_some (g.known (disk_of book)).reads ≡ is_some (g.known disk).reads
-      → IfSome why (λ cause. (after ≡ disk_of book) × IsRefusedOver First catalog i bodies cause)
+      → IfSome why (λ cause. (after ≡ disk_of book) × IsRefusedOver (shape_of book).header catalog i bodies cause)
       → IfSome (g.known after).reads (λ bytes. IfSome why (IsRefusedFor catalog shape i bytes))
-  refused_loaded catalog shape i disk after book bodies None shape_is loaded tells over =
+  refused_loaded catalog shape i disk after book bodies None found places loaded tells over =
       always _ (g.known after).reads (λ bytes. tt)
-  refused_loaded catalog shape i disk after book bodies (Some cause) shape_is loaded tells over =
+  refused_loaded catalog shape i disk after book bodies (Some cause) found places loaded tells over =
       subst (λ (d : D). IfSome (g.known d).reads (λ bytes. IsRefusedFor catalog shape i bytes cause)) (sym over.0)
       (at (g.known (disk_of book)).reads refl)
     where
@@ -331,9 +360,12 @@ module _ {D : Type 0} {g : Ghosts D} where
           let same : stands.with.stands.bytes ≡ bytes = cc in
           let content = bodies_content (shape_of book) (layout_of book) stands.with.stands.bytes bodies
           (laid_is (shape_of book) book.live) (reads_bodies g book bodies stands) in
-          refused_for catalog shape i bytes bodies cause
-          (subst (λ (s : Shape). HasContent s bytes bodies) shape_is
-          (subst (λ b. HasContent (shape_of book) b bodies) same content)) over.1
+          refused_for catalog shape i bytes bodies cause (record {
+            header = (shape_of book).header;
+            places = places;
+            content = subst (λ (s : Shape). HasContent s bytes bodies) found
+                (subst (λ b. HasContent (shape_of book) b bodies) same content);
+          }) over.1
 
   -- ---- over a disk whose book was not loaded
 
@@ -351,7 +383,7 @@ module _ {D : Type 0} {g : Ghosts D} where
 
     -- what it comes to
     pub comes_unloaded : (catalog : Catalog) (i : SiteId) → S.up ≡ false → (why : JournalFault)
-        → HasCause shape why (g.may_leave old) (g.known old) (g.known new)
+        → HasCause shape.capacity shape.sites why (g.may_leave old) (g.known old) (g.known new)
         → Comes catalog layout i S Restart (only (unloaded_by why).0) × ((unloaded_by why).1 ≡ None)
     comes_unloaded catalog i down fault.Failed cause = (
       Comes.unread refl down
@@ -363,14 +395,15 @@ module _ {D : Type 0} {g : Ghosts D} where
           (record { outcome_is = refl; wrote = refl; flight_is = refl; sends = refl; dropped = refl }),
       refl,
     )
-    comes_unloaded catalog i down fault.Foreign cause = absurd (wrong (IsForeign shape) not_foreign cause)
+    comes_unloaded catalog i down fault.Foreign cause =
+        absurd (wrong (IsForeign shape.capacity shape.sites) not_foreign cause)
     comes_unloaded catalog i down (fault.Damaged at claimed) cause =
-        absurd (wrong (λ bytes. IsDamaged shape bytes at claimed) (λ bytes bodies. not_damaged bytes bodies at claimed) cause)
+        absurd (wrong (λ bytes. IsDamagedBook shape.capacity shape.sites bytes at claimed) (λ bytes bodies. not_damaged bytes bodies at claimed) cause)
 
     -- so the engine over its disk has come to this
     pub come_unloaded : (catalog : Catalog) (i : SiteId) (why : JournalFault) (came : Came)
         (refused : Option RefusedRestart) (engine : Engine D g) → S.up ≡ false
-        → HasCause shape why (g.may_leave old) (g.known old) (g.known new) → came ≡ only (unloaded_by why).0
+        → HasCause shape.capacity shape.sites why (g.may_leave old) (g.known old) (g.known new) → came ≡ only (unloaded_by why).0
         → refused ≡ (unloaded_by why).1 → Stands engine (stands_after catalog i S Restart came)
         → HasCome catalog layout i S Restart came refused engine
     come_unloaded catalog i why came refused engine down cause is_came is_refused stands =
@@ -397,14 +430,14 @@ module _ {D : Type 0} (g : Ghosts D) where
   pub restarts_unloaded : SizeIs g → (catalog : Catalog) (shape : Shape) (asked : Layout) (i : SiteId) (why : JournalFault)
       (old new : D) (came : Came) (refused : Option RefusedRestart)
       → is_some (g.known new).reads ≡ is_some (g.known old).reads
-      → HasCause shape why (g.may_leave old) (g.known old) (g.known new) → came.outcome ≡ (unloaded_by why).0
+      → HasCause shape.capacity shape.sites why (g.may_leave old) (g.known old) (g.known new) → came.outcome ≡ (unloaded_by why).0
       → refused ≡ (unloaded_by why).1
       → IfSome (g.known old).reads (λ bytes. RestartsOver catalog shape asked i bytes (g.may_leave old) came refused)
   restarts_unloaded size_is catalog shape asked i why old new came refused tells cause is is_why =
       at (g.known old).reads (g.known new).reads refl refl why cause is is_why
     where
       at : (reads reads' : Option (List ℕ)) → (g.known old).reads ≡ reads → (g.known new).reads ≡ reads'
-          → (w : JournalFault) → HasCause shape w (g.may_leave old) (g.known old) (g.known new)
+          → (w : JournalFault) → HasCause shape.capacity shape.sites w (g.may_leave old) (g.known old) (g.known new)
           → came.outcome ≡ (unloaded_by w).0 → refused ≡ (unloaded_by w).1
           → IfSome reads (λ bytes. RestartsOver catalog shape asked i bytes (g.may_leave old) came refused)
       at None reads' told told' w cause is is_why = tt
@@ -417,21 +450,22 @@ module _ {D : Type 0} (g : Ghosts D) where
       at (Some bytes) (Some found) told told' fault.Foreign cause is is_why =
           RestartsOver.over_others found (found_told size_is old bytes told cause.not_new)
           (subst (λ r. IsImage r (g.may_leave old)) told' cause.image)
-          (inl (is_why, subst (λ r. IfSome r (IsForeign shape)) told' cause.are)) is
+          (inl (is_why, subst (λ r. IfSome r (IsForeign shape.capacity shape.sites)) told' cause.are)) is
       at (Some bytes) (Some found) told told' (fault.Damaged place claimed) cause is is_why =
           RestartsOver.over_others found (found_told size_is old bytes told cause.not_new)
           (subst (λ r. IsImage r (g.may_leave old)) told' cause.image)
-          (inr (place, claimed, is_why, subst (λ r. IfSome r (λ b. IsDamaged shape b place claimed)) told' cause.are)) is
+          (inr (place, claimed, is_why, subst (λ r. IfSome r (λ b. IsDamagedBook shape.capacity shape.sites b place claimed)) told' cause.are)) is
 
   pub restarts_loaded : SizeIs g → (catalog : Catalog) (shape : Shape) (asked : Layout) (i : SiteId) (disk : D)
-      (book : Book D g) (bodies : List (List ℕ)) (came : Came) (why : Option RefusedRestart) → shape_of book ≡ shape
+      (book : Book D g) (bodies : List (List ℕ)) (came : Came) (why : Option RefusedRestart)
+      → shape_of book ≡ headed (shape_of book).header shape → shape.sites ≤ most_in (shape_of book).header
       → (IsSome (g.known disk).reads → StandsFor book bodies) → ((g.known disk).size ≡ 0 → bodies ≡ [])
       → ((g.known disk).size ≡ 0 → layout_of book ≡ asked)
       → (0 < (g.known disk).size → IsImage (g.known (disk_of book)).reads (g.may_leave disk))
       → ComesOf (header_of (layout_of book)) catalog i (left_over (layout_of book) bodies) bodies
       came.wrote why came.outcome
       → IfSome (g.known disk).reads (λ bytes. RestartsOver catalog shape asked i bytes (g.may_leave disk) came why)
-  restarts_loaded size_is catalog shape asked i disk book bodies came why shape_is loaded fresh new image comes =
+  restarts_loaded size_is catalog shape asked i disk book bodies came why found places loaded fresh new image comes =
       at (g.known disk).reads refl
     where
       at : (reads : Option (List ℕ)) → (g.known disk).reads ≡ reads
@@ -445,9 +479,12 @@ module _ {D : Type 0} (g : Ghosts D) where
       at (Some (byte ∷ bytes)) told =
           let stands = loaded (ap is_some told) in
           let some = image (omega (arith, size_told g size_is disk (byte ∷ bytes) told)) in
-          RestartsOver.over_book stands.with.stands.bytes book.live bodies (λ e. absurd (cc))
-          (subst (λ r. IsImage r (g.may_leave disk)) stands.with.stands.told some)
-          (subst (λ (s : Shape). HasBodies (layout_by s book.live) stands.with.stands.bytes bodies) shape_is
+          let header = (shape_of book).header in
+          RestartsOver.over_book stands.with.stands.bytes header book.live bodies (λ e. absurd (cc))
+          (subst (λ r. IsImage r (g.may_leave disk)) stands.with.stands.told some) places
+          (subst (λ (s : Shape). HasBodies (layout_by s book.live) stands.with.stands.bytes bodies) found
           (reads_bodies g book bodies stands))
-          (subst (λ (s : Shape). ComesOf (header_of (layout_by s book.live)) catalog i (left_over (layout_by s book.live) bodies) bodies came.wrote why came.outcome)
-          shape_is comes)
+          (subst (λ (s : Shape). ComesOf header catalog i (left_over (layout_by s book.live) bodies) bodies came.wrote why came.outcome)
+          found
+          (subst (λ (h : Format). ComesOf h catalog i (left_over (layout_of book) bodies) bodies came.wrote why came.outcome)
+          (laid_header (shape_of book) book.live) comes))

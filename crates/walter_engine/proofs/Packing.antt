@@ -274,18 +274,18 @@ module _ (sites : ℕ) (rec : Record) (front : List ℕ) (tx : Tx) (can : CanBeS
 pub entry_size : (sites : ℕ) (it : Placed) → HasSpellingThere sites it
     → length (entry_of sites (spelled_there it)) ≡ packed_size sites it
 entry_size sites (format, Own seq tx) has =
-    started sites (Own seq tx) (number_spelled 1 2 ++ number_spelled 8 seq) tx has.sizes has.among
+    started sites (Own seq tx) (number_spelled 1 2 ++ number_spelled 8 seq) tx has.spelling.sizes has.spelling.among
     (λ f. sym (append_assoc (number_spelled 1 2) (number_spelled 8 seq) (spelling f tx)))
     (omega (arith, length-append (number_spelled 1 2) (number_spelled 8 seq), length-number_spelled 1 2, length-number_spelled 8 seq))
-    refl format has.fits (omega (arith, has.fits, has.among))
+    refl format has.spelling.fits (omega (arith, has.spelling.fits, has.spelling.among))
 entry_size sites (format, Got from seq tx) has =
-    started sites (Got from seq tx) (number_spelled 1 3 ++ version_spelled (as_version from seq)) tx has.sizes has.among
+    started sites (Got from seq tx) (number_spelled 1 3 ++ version_spelled (as_version from seq)) tx has.spelling.sizes has.spelling.among
     (λ f. sym (append_assoc (number_spelled 1 3) (version_spelled (as_version from seq)) (spelling f tx)))
     (omega (arith, length-append (number_spelled 1 3) (version_spelled (as_version from seq)), length-number_spelled 1 3, length-version_spelled (as_version from seq)))
-    refl format has.fits (omega (arith, has.fits, has.among))
+    refl format has.spelling.fits (omega (arith, has.spelling.fits, has.spelling.among))
 entry_size sites (format, SlowBegin slow tx) has =
-    started sites (SlowBegin slow tx) (number_spelled 1 7 ++ number_spelled 8 slow) tx has.sizes has.among
+    started sites (SlowBegin slow tx) (number_spelled 1 7 ++ number_spelled 8 slow) tx has.spelling.sizes has.spelling.among
     (λ f. sym (append_assoc (number_spelled 1 7) (number_spelled 8 slow) (spelling f tx)))
     (omega (arith, length-append (number_spelled 1 7) (number_spelled 8 slow), length-number_spelled 1 7, length-number_spelled 8 slow))
-    refl format has.fits (omega (arith, has.fits, has.among))
+    refl format has.spelling.fits (omega (arith, has.spelling.fits, has.spelling.among))
 entry_size sites (format, rec) has = plain_size sites format rec tt tt

@@ -3,7 +3,6 @@ use Rattle.std.proofs.Common.{◌≡◌, ◌⊎◌, ℕ, ◌+◌, ◌<◌, List,
 use Rattle.std.specs.Prelude.{All, IfSome, IsSome, is_some}
 use Rattle.walter_base.specs.declared.catalog.Catalog.{Catalog}
 use Rattle.walter_base.specs.declared.format.Format.{Format}
-use Rattle.walter_base.specs.declared.format.Format.TheVariants.{First}
 use Rattle.walter_base.specs.declared.message.Record.{Record}
 use Rattle.walter_base.specs.declared.message.Record.TheVariants.{Boot}
 use Rattle.walter_base.specs.declared.names.SiteId.{SiteId}
@@ -23,11 +22,11 @@ use Rattle.walter_engine.specs.Writings.{IsOutcomeOf, IsSameButRoom, IsFormatAt}
 use Rattle.walter_engine.proofs.Bodies.{readable, one_list}
 use Rattle.walter_engine.proofs.Crashes.{unmoved, stays_next, packs_next}
 use Rattle.walter_engine.proofs.Resting.{SizeIs, CountsNow, OnlyNow, may_have}
-use Rattle.walter_engine.proofs.Laid.{laid_first}
+use Rattle.walter_engine.proofs.Laid.{laid_as}
 use Rattle.walter_engine.proofs.Room.{IsFor, left_packed}
 use Rattle.walter_engine.proofs.Taking.{same_parts}
 use Rattle.walter_engine.proofs.Written.{leaves_same, leaves_unpacked, same_layout}
-use Rattle.walter_checkpoint.specs.Books.{disk_of, StandsFor}
+use Rattle.walter_checkpoint.specs.Books.{disk_of, shape_of, StandsFor}
 use Rattle.walter_checkpoint.specs.declared.book.Book.{Book}
 use Rattle.walter_machine.specs.declared.machine.Machine.{Machine}
 use Rattle.walter_machine.specs.declared.ready.Ready.{Ready}
@@ -141,16 +140,16 @@ module _ {D : Type 0} {g : Ghosts D} (catalog : Catalog) (layout : Layout) (i : 
       readable header catalog i bodies index S.records
       (record { spell = lies.is; spellings = lies.spellings.records; follow = lies.told.follow }) bad
 
-  -- its header is of the first format
-  pub over_here : (ready : Ready) (format : Format) → IsReadyOver First catalog i bodies ready format
+  -- its header is the book's
+  pub over_here : (ready : Ready) (format : Format) → IsReadyOver (shape_of book).header catalog i bodies ready format
       → IsReadyOver header catalog i bodies ready format
   over_here ready format over =
-      subst (λ (h : Format). IsReadyOver h catalog i bodies ready format) (sym (laid_first book layout lies.laid)) over
+      subst (λ (h : Format). IsReadyOver h catalog i bodies ready format) (sym (laid_as book layout lies.laid)) over
 
-  pub refused_here : (why : Option RefusedRestart) → IfSome why (IsRefusedOver First catalog i bodies)
+  pub refused_here : (why : Option RefusedRestart) → IfSome why (IsRefusedOver (shape_of book).header catalog i bodies)
       → IfSome why (IsRefusedOver header catalog i bodies)
   refused_here why refused =
-      subst (λ (h : Format). IfSome why (IsRefusedOver h catalog i bodies)) (sym (laid_first book layout lies.laid)) refused
+      subst (λ (h : Format). IfSome why (IsRefusedOver h catalog i bodies)) (sym (laid_as book layout lies.laid)) refused
 
   same_here : (records : List Record) → Tell header catalog i bodies records → records ≡ S.records
   same_here records tell =

@@ -70,7 +70,7 @@ module _ (header : Format) (sites : ℕ) (records : List Record) (all : HaveSpel
   spelled_all = recursion_from_All (HasSpellingThere sites) (placed header records) all
 
   need_is_there : (it : Placed) → HasSpellingThere sites it → 5 + length (spelled_there it) ≡ need_there it
-  need_is_there it has = omega (arith, length-record_spelled it.0 it.1 (fits_format it.0 sites it.1 has))
+  need_is_there it has = omega (arith, length-record_spelled it.0 it.1 (fits_format it.0 sites it.1 has.spelling))
 
   sizes_are : sum_by (λ body. 5 + length body) (spelled header records) ≡ sum_by need_there (placed header records)
   sizes_are = sums_by sites (λ body. 5 + length body) need_there need_is_there (placed header records) spelled_all

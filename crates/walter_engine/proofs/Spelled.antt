@@ -10,7 +10,7 @@ use Rattle.walter_base.specs.declared.message.Record.{Record}
 use Rattle.walter_base.specs.declared.message.Record.TheVariants.{Own, Got, SlowBegin}
 use Rattle.walter_base.specs.declared.names.SiteId.{SiteId}
 use Rattle.walter_base.specs.Sizes.{most_in}
-use Rattle.walter_engine.specs.Contents.{AreSpelled, HaveSpellings, HasSpellingThere, spelled, spelled_there}
+use Rattle.walter_engine.specs.Contents.{AreSpelled, CanStandIn, HaveSpellings, HasSpellingThere, spelled, spelled_there}
 use Rattle.walter_record.specs.Spelling.{record_spelled, HasRecordSpelling, AreInRange}
 use Rattle.walter_machine.specs.States.{AreTold}
 use Rattle.walter_rules.proofs.Placed.{placed-push, format_told}
@@ -42,10 +42,11 @@ spelled_among format sites (SlowBegin slow tx) fits is ranges =
     record { fits = fits; among = is.0; sizes = is.1; ranges = ranges }
 spelled_among format sites rec fits is ranges = record { fits = fits; among = tt; sizes = is; ranges = ranges }
 
--- the second format has a place for as many sites as the first, and more
-pub enough_in : (format : Format) {sites : ℕ} → sites ≤ most_in First → sites ≤ most_in format
-enough_in First few = few
-enough_in Second few = omega (arith, few)
+-- the format in force has a place for as many sites as the header's
+pub enough_in : (header told : Format) {sites : ℕ} → sites ≤ most_in header → sites ≤ most_in (in_force header told)
+enough_in First First few = few
+enough_in First Second few = omega (arith, few)
+enough_in Second told few = few
 
 -- by what its records tell, the format in force at a site is the one behind them
 pub told_format : (header : Format) (catalog : Catalog) (i : SiteId) (S : Standing) → AreTold catalog i S
@@ -68,15 +69,15 @@ length-spelled header records = length-map (placed header records) spelled_there
     length-placed format (rec ∷ rs) = ap (λ n. suc n) (length-placed (format_behind rec format) rs)
 
 pub have_more : (header : Format) (sites : ℕ) (records : List Record) (rec : Record) → HaveSpellings header sites records
-    → HasRecordSpelling (format_at header records) sites rec → HaveSpellings header sites (records ++ rec ∷ [])
+    → CanStandIn (format_at header records) sites rec → HaveSpellings header sites (records ++ rec ∷ [])
 have_more header sites records rec all is =
     subst (All (HasSpellingThere sites)) (sym (placed-push header records rec))
     (All-push (HasSpellingThere sites) (placed header records) (format_at header records, rec) all is)
 
 module _ (header : Format) (sites : ℕ) (records : List Record) where
-  -- has a spelling behind the records, and behind the one that was written too
+  -- can stand behind the records, and behind the one that was written too
   abbrev pub Behind : Option Record → Record → Type 0
-  Behind wrote rec = HasRecordSpelling (format_at header (records_after wrote records)) sites rec
+  Behind wrote rec = CanStandIn (format_at header (records_after wrote records)) sites rec
 
   all_after : (wrote : Option Record) → HaveSpellings header sites records → IfSome wrote (Behind None)
       → HaveSpellings header sites (records_after wrote records)

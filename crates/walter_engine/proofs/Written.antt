@@ -1,11 +1,12 @@
 -- What the write of a record leaves, and what comes of it.
-use Rattle.std.proofs.Common.{◌≡◌, ℕ, ◌-◌, ◌<◌, ◌≤◌, List, [], ◌∷◌, ◌++◌, Bool, true, false, Option, Some, None, Result, Err, refl, ap, sym, ◌∙◌, subst, inl, inr, arith}
+use Rattle.std.proofs.Common.{◌≡◌, ℕ, ◌-◌, ◌<◌, ◌≤◌, List, [], ◌∷◌, ◌++◌, Bool, true, false, Option, Some, None, Result, Err, refl, ap, sym, ◌∙◌, subst, inl, inr, ◌⊎◌, ⊎_elim, arith}
 use Rattle.std.specs.Prelude.{IfSome, IsSome, OnErr, is_some}
 use Rattle.std.proofs.lemmas.Bool.{cases_lt}
 use Rattle.walter_base.specs.declared.catalog.Catalog.{Catalog}
 use Rattle.walter_base.specs.declared.format.Format.{Format}
+use Rattle.walter_base.specs.declared.format.Format.TheVariants.{First, Second}
 use Rattle.walter_base.specs.declared.message.Record.{Record}
-use Rattle.walter_base.specs.declared.message.Record.TheVariants.{Boot}
+use Rattle.walter_base.specs.declared.message.Record.TheVariants.{Boot, Format as FormatRecord}
 use Rattle.walter_base.specs.declared.names.SiteId.{SiteId}
 use Rattle.walter_base.specs.Sizes.{CanBeRecorded, most_in}
 use Rattle.walter_engine.specs.Effects.{AreCalls, AreCallsFor}
@@ -15,7 +16,7 @@ use Rattle.walter_checkpoint.specs.declared.book.Book.{Book}
 use Rattle.walter_disk.specs.declared.disk.Disk.{Ghosts}
 use Rattle.walter_disk.specs.Disks.{Fails}
 use Rattle.walter_disk.specs.Images.{LeavesOnly}
-use Rattle.walter_engine.specs.Contents.{AreSpelled, HasBodies, spelled}
+use Rattle.walter_engine.specs.Contents.{AreSpelled, CanStandIn, HasBodies, says_again, spelled}
 use Rattle.walter_engine.specs.Stores.{book_if, disk_if, layout_by, layout_of, IsKept, IsOnDisk, IsStored, IsLeft}
 use Rattle.walter_engine.specs.Writings.{IsSameButRoom, IsSpelling, IsSpellingIfAny, IsOutcomeOf, IsFormatAt}
 use Rattle.walter_engine.proofs.Bodies.{some_is}
@@ -37,13 +38,13 @@ use Rattle.walter_record.specs.Spelling.{record_spelled, HasRecordSpelling, AreI
 use Rattle.walter_rules.specs.declared.entry.Came.{Came}
 use Rattle.walter_rules.specs.declared.event.Event.{Event}
 use Rattle.walter_rules.specs.declared.event.Event.TheVariants.{Given}
-use Rattle.walter_rules.specs.declared.event.Input.TheVariants.{Call}
+use Rattle.walter_rules.specs.declared.event.Input.TheVariants.{Call, Upgrade}
 use Rattle.walter_rules.specs.declared.outcome.Outcome.{Outcome}
 use Rattle.walter_rules.specs.declared.outcome.Outcome.TheVariants.{Refused, Taken}
-use Rattle.walter_rules.specs.Allowed.{IsKind, boots}
+use Rattle.walter_rules.specs.Allowed.{IsKind, boots, upgrades}
 use Rattle.walter_rules.specs.Calls.{Expected}
-use Rattle.walter_rules.specs.Layouts.{Layout, header_of, format_at, need_of, need_in, left_behind, FitsIn}
-use Rattle.walter_rules.specs.Rule.{rule}
+use Rattle.walter_rules.specs.Layouts.{Layout, header_of, in_force, format_at, need_of, need_in, left_behind, FitsIn}
+use Rattle.walter_rules.specs.Rule.{rule, rule_where, upgrade_rule}
 use Rattle.walter_rules.proofs.RulesAllowed.{rule_allowed}
 use Rattle.walter_rules.specs.Standing.{Standing, records_after, flight_after, stands_after, up_after}
 use Rattle.walter_rules.specs.Trails.{failure, fullness, want, only}
@@ -120,6 +121,45 @@ kind_allowed : (catalog : Catalog) (i : SiteId) (S : Standing) (event : Event) (
     (outcome : Outcome) → IsKind catalog i S event wrote outcome → is_refusal outcome ≡ false
 kind_allowed catalog i S event wrote outcome (boots down) = refl
 kind_allowed catalog i S event wrote outcome kind = refl
+
+-- the record says that the second format begins
+says_format : Option Record → Bool
+says_format None = false
+says_format (Some FormatRecord) = true
+says_format (Some rec) = false
+
+kind_format : (catalog : Catalog) (i : SiteId) (S : Standing) (event : Event) (wrote : Option Record)
+    (outcome : Outcome) → IsKind catalog i S event wrote outcome
+    → (says_format wrote ≡ false) ⊎ (event ≡ Given Upgrade)
+kind_format catalog i S event wrote outcome (upgrades up first) = inr refl
+kind_format catalog i S event wrote outcome kind = inl refl
+
+others_once : (format : Format) (wrote : Option Record) → says_format wrote ≡ false
+    → IfSome wrote (λ rec. says_again rec format ≡ false)
+others_once format None other = tt
+others_once format (Some FormatRecord) other = absurd (cc)
+others_once format (Some rec) other = refl
+
+upgrade_once : (up : Bool) (header : Format) (catalog : Catalog) (i : SiteId) (S : Standing)
+    → IfSome (rule_where up header catalog i S Upgrade).wrote
+    (λ rec. says_again rec (in_force header S.knows.format) ≡ false)
+upgrade_once false header catalog i S = tt
+upgrade_once true header catalog i S = by (in_force header S.knows.format)
+  where
+    by : (format : Format) → IfSome (upgrade_rule format).wrote (λ rec. says_again rec format ≡ false)
+    by First = refl
+    by Second = tt
+
+-- no rule says where the second format is in force that this begins
+pub rule_once : (header : Format) (catalog : Catalog) (i : SiteId) (S : Standing) (event : Event)
+    → IfSome (rule header catalog i S event).wrote (λ rec. says_again rec (in_force header S.knows.format) ≡ false)
+rule_once header catalog i S event =
+    ⊎_elim (others_once (in_force header S.knows.format) (rule header catalog i S event).wrote)
+    (λ is.
+    subst (λ (e : Event). IfSome (rule header catalog i S e).wrote (λ rec. says_again rec (in_force header S.knows.format) ≡ false))
+    (sym is) (upgrade_once S.up header catalog i S))
+    (kind_format catalog i S event (rule header catalog i S event).wrote (rule header catalog i S event).outcome
+    (rule_allowed header catalog i S event).0.kind)
 
 -- no rule refuses a restart
 pub rule_allows : (header : Format) (catalog : Catalog) (i : SiteId) (S : Standing) (event : Event)
@@ -212,6 +252,18 @@ module _ (catalog : Catalog) (layout : Layout) (i : SiteId) (site : Option Table
   has format fits ranges =
       spelled_among format catalog.sites rec fits
       (some_is (CanBeNext catalog i S) (rec_in ready) rec is ready_for.next).sizes ranges
+
+  -- it can stand in the format in force
+  pub stands_in : (format : Format) → AreTold catalog i S → IsFormatAt format layout S
+      → HasRecordSpelling format catalog.sites rec → CanStandIn format catalog.sites rec
+  stands_in format told at spelling =
+      let once = some_is (λ r. says_again r (in_force (header_of layout) S.knows.format) ≡ false)
+      (rule (header_of layout) catalog i S event).wrote rec brings (rule_once (header_of layout) catalog i S event) in
+      record {
+        spelling = spelling;
+        once = subst (λ (f : Format). says_again rec f ≡ false)
+            (told_format (header_of layout) catalog i S told ∙ sym at) once;
+      }
 
   module _ {D : Type 0} {g : Ghosts D} (format : Format) (told : AreTold catalog i S)
       (at : IsFormatAt format layout S) (book : Book D g) (kept : IsKept {g = g} layout S book) (body : List ℕ)
@@ -330,9 +382,9 @@ module _ {D : Type 0} {g : Ghosts D} (size_is : SizeIs g) (catalog : Catalog) (l
 
   module _ (mid : Book D g) (rec : Record) (format : Format) (body : List ℕ) (kept : IsKept layout S mid)
       (at : IsFormatAt format layout S) (is : body ≡ record_spelled format rec)
-      (has : HasRecordSpelling format catalog.sites rec) where
+      (has : CanStandIn format catalog.sites rec) where
     has_there : Has rec
-    has_there = subst (λ (f : Format). HasRecordSpelling f catalog.sites rec) at has
+    has_there = subst (λ (f : Format). CanStandIn f catalog.sites rec) at has
 
     is_there : body ≡ record_spelled (format_at header S.records) rec
     is_there = is ∙ ap (λ (f : Format). record_spelled f rec) at

@@ -2,7 +2,6 @@
 use Rattle.std.specs.Prelude.{◌≡◌, ◌⊎◌, ◌+◌, ◌≤◌, ℕ, false, List, map, take, slice_get, Option, Some, None, All, IfSome, IsSome, is_some}
 use Rattle.walter_base.specs.declared.catalog.Catalog.{Catalog}
 use Rattle.walter_base.specs.declared.format.Format.{Format}
-use Rattle.walter_base.specs.declared.format.Format.TheVariants.{First}
 use Rattle.walter_base.specs.declared.message.Record.{Record}
 use Rattle.walter_base.specs.declared.names.SiteId.{SiteId}
 use Rattle.walter_disk.specs.declared.disk.Disk.{Ghosts}
@@ -11,15 +10,16 @@ use Rattle.walter_engine.specs.declared.answers.Effect.{Effect}
 use Rattle.walter_engine.specs.declared.answers.RefusedRestart.{RefusedRestart}
 use Rattle.walter_engine.specs.declared.answers.RefusedRestart.TheVariants.{Foreign, Damaged, Unreadable, LastEpoch}
 use Rattle.walter_engine.specs.declared.engine.Engine.{Engine}
-use Rattle.walter_engine.specs.Contents.{MayHaveNext, spelled, HaveSpellings}
+use Rattle.walter_engine.specs.Contents.{MayHaveNext, spelled, HaveSpellings, CanStandIn, HasBook}
 use Rattle.walter_engine.specs.Engines.{Stands, OfDisk, OfDisks, IsSameEngine, catalog_in, site_in, layout_in, shape_in}
-use Rattle.walter_checkpoint.specs.Areas.{Shape, HasContent, IsForeign, IsDamaged}
+use Rattle.walter_checkpoint.specs.Areas.{Shape, IsForeign}
 use Rattle.walter_checkpoint.specs.Books.{calls_of_pack}
+use Rattle.walter_checkpoint.specs.Faults.{IsDamagedBook}
 use Rattle.walter_checkpoint.specs.Loads.{calls_of_load}
 use Rattle.walter_checkpoint.specs.declared.book.Live.{Live}
 use Rattle.walter_machine.specs.Comings.{IsRest, IsSized, IsFaulty}
 use Rattle.walter_packet.specs.Framed.{frame_of}
-use Rattle.walter_record.specs.Spelling.{record_spelled, HasRecordSpelling}
+use Rattle.walter_record.specs.Spelling.{record_spelled}
 use Rattle.walter_rules.specs.declared.entry.Came.{Came}
 use Rattle.walter_rules.specs.declared.event.Event.{Event}
 use Rattle.walter_rules.specs.declared.event.Event.TheVariants.{Restart}
@@ -45,7 +45,7 @@ pub record IsUnreadable (header : Format) (catalog : Catalog) (i : SiteId) (bodi
   pub front : Tell header catalog i (take index bodies) records
   pub within : slice_get bodies index ≡ Some body
   pub wrong : let format = in_force header (replayed catalog i fresh records).format in
-      (rec : Record) → HasRecordSpelling format catalog.sites rec → body ≡ record_spelled format rec
+      (rec : Record) → CanStandIn format catalog.sites rec → body ≡ record_spelled format rec
       → ¬ CanFollow catalog i (replayed catalog i fresh records) rec
 
 -- by the bodies that the journal has: one of them spells no record that can stand there, or the epoch that they tell is
@@ -59,10 +59,10 @@ IsRefusedOver header catalog i bodies LastEpoch =
 
 -- by the bytes that the disk has: they are no book, or a damaged one, or one with such bodies
 abbrev pub IsRefusedFor : Catalog → Shape → SiteId → List ℕ → RefusedRestart → Type 0
-IsRefusedFor catalog shape i bytes Foreign = IsForeign shape bytes
-IsRefusedFor catalog shape i bytes (Damaged at length) = IsDamaged shape bytes at length
+IsRefusedFor catalog shape i bytes Foreign = IsForeign shape.capacity shape.sites bytes
+IsRefusedFor catalog shape i bytes (Damaged at length) = IsDamagedBook shape.capacity shape.sites bytes at length
 IsRefusedFor catalog shape i bytes why =
-    (bodies : List (List ℕ)) × HasContent shape bytes bodies × IsRefusedOver First catalog i bodies why
+    (bodies : List (List ℕ)) × (book : HasBook shape bytes bodies) × IsRefusedOver book.header catalog i bodies why
 
 -- ---- what an event comes to
 

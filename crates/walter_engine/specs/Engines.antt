@@ -1,7 +1,7 @@
 -- How an engine stands: what is known of its disk, and of the site on it.
 use Rattle.std.specs.Prelude.{◌≡◌, ◌==◌, if◌then◌else◌, ℕ, Bool, Option, IfSome}
 use Rattle.walter_base.specs.declared.catalog.Catalog.{Catalog}
-use Rattle.walter_base.specs.declared.format.Format.TheVariants.{First}
+use Rattle.walter_base.specs.declared.format.Format.{Format}
 use Rattle.walter_base.specs.declared.names.SiteId.{SiteId}
 use Rattle.walter_checkpoint.specs.Areas.{Shape, shape_by}
 use Rattle.walter_disk.specs.declared.disk.Disk.{Ghosts}
@@ -23,16 +23,16 @@ site_in engine = machine.site_in engine.machine
 abbrev pub capacity_in : {D : Type 0} {g : Ghosts D} → Engine D g → ℕ
 capacity_in engine = engine.capacity
 
--- the layout that a new journal gets, of so many areas
-abbrev pub layout_for : (areas capacity sites : ℕ) → Layout
-layout_for areas capacity sites = if areas == 2 then two_areas capacity sites First else one_area capacity First
+-- the layout that a new journal gets, of so many areas and with such a header
+abbrev pub layout_for : (areas capacity sites : ℕ) → Format → Layout
+layout_for areas capacity sites header = if areas == 2 then two_areas capacity sites header else one_area capacity header
 
 -- how its journal is laid out: as it was asked for, or, once the site has begun, as it was found
 abbrev pub layout_in : {D : Type 0} {g : Ghosts D} → Engine D g → Layout
-layout_in engine = layout_for engine.areas engine.capacity (catalog_in engine).sites
+layout_in engine = layout_for engine.areas engine.capacity (catalog_in engine).sites engine.format
 
 abbrev pub shape_in : {D : Type 0} {g : Ghosts D} → Engine D g → Shape
-shape_in engine = shape_by engine.capacity (catalog_in engine).sites
+shape_in engine = shape_by engine.capacity (catalog_in engine).sites engine.format
 
 -- the disk, under a book or bare
 abbrev pub disk_in : {D : Type 0} {g : Ghosts D} → Engine D g → Option D

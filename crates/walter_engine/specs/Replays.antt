@@ -7,7 +7,7 @@ use Rattle.walter_base.specs.declared.message.Record.TheVariants.{Boot}
 use Rattle.walter_base.specs.declared.names.SiteId.{SiteId}
 use Rattle.walter_machine.specs.declared.ready.Ready.{Ready}
 use Rattle.walter_machine.specs.Readiness.{rec_in, IsReadyFor, IsReadyAnyway}
-use Rattle.walter_record.specs.Spelling.{record_spelled, HasRecordSpelling}
+use Rattle.walter_record.specs.Spelling.{record_spelled}
 use Rattle.walter_tables.specs.declared.replay.ReplayFault.{ReplayFault}
 use Rattle.walter_tables.specs.declared.replay.ReplayFault.TheVariants.{Unfit, NoMemory}
 use Rattle.walter_tables.specs.declared.tables.Tables.{Tables}
@@ -18,6 +18,7 @@ use Rattle.walter_rules.specs.Learning.{recorded}
 use Rattle.walter_rules.specs.Records.{CanFollow, replayed}
 use Rattle.walter_rules.specs.declared.event.Event.TheVariants.{Restart}
 use Rattle.walter_rules.specs.Standing.{Standing}
+use Rattle.walter_engine.specs.Contents.{CanStandIn}
 use Rattle.walter_engine.specs.Effects.{Tell}
 
 -- the format in force behind a header, and behind the records that tell these tables
@@ -27,7 +28,7 @@ format_in header tables = in_force header (values_of tables).format
 -- the body spells a record in the format in force that can follow, which leaves this
 pub record Takes (header : Format) (old : Tables) (body : List ℕ) (new : Tables) : Type 0 where
   pub rec : Record
-  pub spelling : HasRecordSpelling (format_in header old) (catalog_of old).sites rec
+  pub stands : CanStandIn (format_in header old) (catalog_of old).sites rec
   pub is : body ≡ record_spelled (format_in header old) rec
   pub follows : (K : Knowledge) → Stands old K → CanFollow (catalog_of old) (site_of old) K rec
   pub leaves : (K : Knowledge) → Stands old K → Stands new (recorded (catalog_of old) (site_of old) (Some rec) K)
@@ -36,7 +37,7 @@ pub record Takes (header : Format) (old : Tables) (body : List ℕ) (new : Table
 abbrev pub SpellsNone : Format → Catalog → SiteId → Knowledge → List ℕ → Type 0
 SpellsNone header catalog i K body =
     let format = in_force header K.format in
-    (rec : Record) → HasRecordSpelling format catalog.sites rec → body ≡ record_spelled format rec
+    (rec : Record) → CanStandIn format catalog.sites rec → body ≡ record_spelled format rec
     → ¬ CanFollow catalog i K rec
 
 abbrev pub IsUnfit : Format → Tables → List ℕ → ReplayFault → Type 0

@@ -1,16 +1,18 @@
 -- What a restart comes to over what the disk has, whoever left it there.
-use Rattle.std.specs.Prelude.{◌≡◌, ◌≢◌, ◌⊎◌, ◌+◌, ◌-◌, ◌/◌, ◌<◌, ℕ, List, [], length, Option, Some, None}
+use Rattle.std.specs.Prelude.{◌≡◌, ◌≢◌, ◌⊎◌, ◌+◌, ◌-◌, ◌/◌, ◌<◌, ◌≤◌, ℕ, List, [], length, Option, Some, None}
 use Rattle.walter_base.specs.declared.catalog.Catalog.{Catalog}
 use Rattle.walter_base.specs.declared.format.Format.{Format}
 use Rattle.walter_base.specs.declared.message.Record.{Record}
 use Rattle.walter_base.specs.declared.message.Record.TheVariants.{Boot}
 use Rattle.walter_base.specs.declared.names.SiteId.{SiteId}
+use Rattle.walter_base.specs.Sizes.{most_in}
 use Rattle.walter_engine.specs.declared.answers.RefusedRestart.{RefusedRestart}
 use Rattle.walter_engine.specs.declared.answers.RefusedRestart.TheVariants as refused
 use Rattle.walter_engine.specs.Effects.{Tell, IsRefusedOver}
-use Rattle.walter_engine.specs.Contents.{HasBodies}
+use Rattle.walter_engine.specs.Contents.{HasBodies, headed}
 use Rattle.walter_engine.specs.Stores.{layout_by}
-use Rattle.walter_checkpoint.specs.Areas.{Shape, IsForeign, IsDamaged}
+use Rattle.walter_checkpoint.specs.Areas.{Shape, IsForeign}
+use Rattle.walter_checkpoint.specs.Faults.{IsDamagedBook}
 use Rattle.walter_checkpoint.specs.Packs.{renewed_by}
 use Rattle.walter_checkpoint.specs.declared.book.Live.{Live}
 use Rattle.walter_journal.specs.Layout.{end_behind}
@@ -41,8 +43,10 @@ left_over (two_areas capacity sites header) bodies = (capacity - 9) / 2 - length
 
 -- no book can be loaded from these bytes: they are none, or a damaged one
 abbrev pub IsUnloadable : Shape → List ℕ → Option RefusedRestart → Type 0
-IsUnloadable shape bytes why = ((why ≡ Some refused.Foreign) × IsForeign shape bytes)
-    ⊎ ((at claimed : ℕ) × (why ≡ Some (refused.Damaged at claimed)) × IsDamaged shape bytes at claimed)
+IsUnloadable shape bytes why =
+    ((why ≡ Some refused.Foreign) × IsForeign shape.capacity shape.sites bytes)
+    ⊎ ((at claimed : ℕ) × (why ≡ Some (refused.Damaged at claimed))
+    × IsDamagedBook shape.capacity shape.sites bytes at claimed)
 
 -- What a restart comes to over a disk that reads so, of which a crash leaves these images: it goes by no bodies, where
 -- there are no bytes, and makes a book of the layout that is asked for; else by those that one of the images has, in the
@@ -53,9 +57,9 @@ pub data RestartsOver (catalog : Catalog) (shape : Shape) (asked : Layout) (i : 
       → RestartsOver catalog shape asked i bytes images came why
   over_none : bytes ≡ [] → ComesOf (header_of asked) catalog i (left_over asked []) [] came.wrote why came.outcome
       → RestartsOver catalog shape asked i bytes images came why
-  over_book : (found : List ℕ) (live : Live) (bodies : List (List ℕ)) → bytes ≢ [] → images found
-      → HasBodies (layout_by shape live) found bodies
-      → ComesOf (header_of (layout_by shape live)) catalog i (left_over (layout_by shape live) bodies) bodies
+  over_book : (found : List ℕ) (header : Format) (live : Live) (bodies : List (List ℕ)) → bytes ≢ [] → images found
+      → shape.sites ≤ most_in header → HasBodies (layout_by (headed header shape) live) found bodies
+      → ComesOf header catalog i (left_over (layout_by (headed header shape) live) bodies) bodies
       came.wrote why came.outcome
       → RestartsOver catalog shape asked i bytes images came why
   over_others : (found : List ℕ) → bytes ≢ [] → images found → IsUnloadable shape found why → came.outcome ≡ Refused

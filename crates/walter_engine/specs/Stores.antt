@@ -2,6 +2,7 @@
 use Rattle.std.specs.Prelude.{◌≡◌, ◌<◌, ℕ, Bool, List, Option, Some, None, IsSome, if◌then◌else◌}
 use Rattle.walter_disk.specs.declared.disk.Disk.{Ghosts}
 use Rattle.walter_engine.specs.Contents.{MayHaveRecords, AreSpelled, spelled}
+use Rattle.walter_base.specs.declared.format.Format.{Format}
 use Rattle.walter_checkpoint.specs.Areas.{Shape}
 use Rattle.walter_checkpoint.specs.Books.{disk_of, shape_of, left_of, StandsFor}
 use Rattle.walter_checkpoint.specs.declared.book.Book.{Book}
@@ -9,7 +10,6 @@ use Rattle.walter_checkpoint.specs.declared.book.Live.{Live}
 use Rattle.walter_checkpoint.specs.declared.book.Live.TheVariants.{Whole, A, B}
 use Rattle.walter_machine.specs.declared.machine.Machine.{Machine}
 use Rattle.walter_machine.specs.Machines.{HasStanding, catalog_in, is_up}
-use Rattle.walter_base.specs.declared.format.Format.TheVariants.{First}
 use Rattle.walter_rules.specs.Layouts.{Layout, one_area, two_areas, header_of, left_behind}
 use Rattle.walter_rules.specs.Standing.{Standing}
 
@@ -26,11 +26,16 @@ book_if up book = if up then Some book else None
 abbrev pub disk_if : {D : Type 0} {g : Ghosts D} → (up : Bool) → Book D g → Option D
 disk_if up book = if up then None else Some (disk_of book)
 
+-- the format that the header of a book names; where there is none, the one that is asked for
+abbrev pub header_under : {D : Type 0} {g : Ghosts D} → Option (Book D g) → Format → Format
+header_under None asked = asked
+header_under (Some book) asked = (shape_of book).header
+
 -- how a book is laid out
 abbrev pub layout_by : Shape → Live → Layout
-layout_by shape Whole = one_area shape.capacity First
-layout_by shape A = two_areas shape.capacity shape.sites First
-layout_by shape B = two_areas shape.capacity shape.sites First
+layout_by shape Whole = one_area shape.capacity shape.header
+layout_by shape A = two_areas shape.capacity shape.sites shape.header
+layout_by shape B = two_areas shape.capacity shape.sites shape.header
 
 abbrev pub layout_of : {D : Type 0} {g : Ghosts D} → Book D g → Layout
 layout_of book = layout_by (shape_of book) book.live

@@ -7,7 +7,7 @@ use Rattle.walter_disk.specs.Images.{LeavesOnly}
 use Rattle.walter_engine.specs.Contents.{AreSpelled, MayHaveNext}
 use Rattle.walter_engine.specs.Effects.{AreCalls}
 use Rattle.walter_engine.specs.Stores.{IsKept, IsLeft}
-use Rattle.walter_checkpoint.specs.Books.{disk_of, left_of, IsSameBook, HasRoom, HasRoomBehind}
+use Rattle.walter_checkpoint.specs.Books.{disk_of, shape_of, left_of, IsSameBook, HasRoom, HasRoomBehind}
 use Rattle.walter_checkpoint.specs.declared.book.Book.{Book}
 use Rattle.walter_machine.specs.Comings.{IsSized, IsFaulty}
 use Rattle.walter_machine.specs.Machines.{catalog_in, site_in, tables_in, is_up, HasStanding, IsCounted, IsSameSite}
@@ -96,6 +96,7 @@ pub record Writes {D : Type 0} (g : Ghosts D) (format : Format) (old new : Machi
   pub sent : (came_in ready).sends ≡ [] → came.sends ≡ []
   pub wrote : came.outcome ≡ Taken → came.wrote ≡ rec_in ready
   pub untouched : rec_in ready ≡ None → disk_of now ≡ disk_of before
+  pub shape : shape_of now ≡ shape_of before
   pub sized : IsSized (catalog_in old).sites came
   pub framed : frames ≡ map (λ s. frame_of (catalog_in old).sites s.1) came.sends
   pub none_dropped : came.dropped ≡ 0

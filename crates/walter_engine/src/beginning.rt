@@ -1,6 +1,5 @@
 //! The first restart of a site.
 ghost use Rattle.std.specs.Prelude.{◌≡◌, ◌+◌, ◌≤◌, [], ◌∷◌, map, is_ok, is_some, None, Result, OnOk};
-ghost use Rattle.walter_base.specs.declared.format.Format.TheVariants.{First};
 ghost use Rattle.walter_base.specs.Sizes.{most_in};
 ghost use Rattle.walter_disk.specs.Images.{LeavesOnly};
 ghost use Rattle.walter_engine.specs.declared.answers.BeginFault.{BeginFault as Fault};
@@ -32,7 +31,7 @@ pub(crate) fn begin_over<D: Disk>(
     requires down { tables_in machine.old ≡ None }
     requires place { 10 ≤ left_over (layout_of book.old) [] }
     requires sites { (shape_of book.old).sites ≡ (catalog_in machine.old).sites }
-    requires most { (catalog_in machine.old).sites ≤ most_in First }
+    requires most { (catalog_in machine.old).sites ≤ most_in (shape_of book.old).header }
     requires pack_room { HasPackRoom book.old }
     requires ready { IsReady book.old (map (λ body. body.items) bodies.now) }
     requires goes_on { GoesOnBehind book.old (map (λ body. body.items) bodies.now) }
@@ -50,6 +49,7 @@ pub(crate) fn begin_over<D: Disk>(
     ensures at_most { D.device_calls (disk_of book.new) ≤ D.device_calls (disk_of book.old) + 4 }
     ensures arms { (D.known (disk_of book.new)).arms ≡ (D.known (disk_of book.old)).arms }
     ensures tells { is_some (D.known (disk_of book.new)).reads ≡ is_some (D.known (disk_of book.old)).reads }
+    ensures shape { shape_of book.new ≡ shape_of book.old }
     ensures same { IsSameSite machine.old machine.new }
 {
     if !bodies.is_empty() {

@@ -1,13 +1,14 @@
 //! A site with its disk: events come to it, and what they bring is journaled.
 ghost use Rattle.std.specs.Prelude.{◌≡◌, ◌≢◌, ◌+◌, ◌<◌, ◌≤◌, ℕ, List, ◌++◌, ◌∷◌, [], true, false, not, None, Some, map, is_ok, is_some, IsSome, IfSome, IfOk, IfErr, OnOk, OnErr, option_map};
-ghost use Rattle.walter_base.specs.declared.format.Format.TheVariants.{First};
 ghost use Rattle.walter_base.specs.Sizes.{most_in};
 ghost use Rattle.walter_checkpoint.specs.Loads.{IsAreas};
 ghost use Rattle.walter_engine.specs.Props.{props};
+ghost use Rattle.walter_engine.specs.Stores.{header_under};
 ghost use Rattle.walter_machine.specs.Machines.{is_up as is_up_machine, catalog_in as machine_catalog};
 
 use crate::answers::{BeginFault, Effect, RefusedRestart};
 use crate::beginning::{begin_over, not_loaded};
+use crate::replaying::format_in;
 use crate::restarting::{raise, unloaded};
 use crate::store::{arm, close_unless, into_disk};
 use crate::writing::write;
@@ -25,8 +26,10 @@ pub struct Engine<D: Disk> {
     alloc: Global,
     machine: Machine,
     capacity: u64,
-    // Of how many areas the journal is: as it was asked for, or, once the site has begun, as it was found.
+    // Of how many areas the journal is, and the format that its header names: as it was asked for, or, once the site has
+    // begun, as it was found.
     areas: u8,
+    format: Format,
     // The journal of a site that is up, or the bare disk of one that is down. Neither is there only within a call.
     book: Option<Book<D>>,
     disk: Option<D>,
@@ -35,7 +38,8 @@ pub struct Engine<D: Disk> {
     ghost open: { is_some book ≡ is_up_machine machine },
     ghost bare: { is_some disk ≡ not (is_up_machine machine) },
     ghost laid: { IsAreas areas capacity } by { Prim.hlevel props },
-    ghost most: { (machine_catalog machine).sites ≤ most_in First },
+    ghost most: { (machine_catalog machine).sites ≤ most_in format },
+    ghost places: { (machine_catalog machine).sites ≤ most_in (header_under book format) },
 }
 
 impl<D: Disk + Drop> Engine<D> {
@@ -59,7 +63,8 @@ impl<D: Disk + Drop> Engine<D> {
     ghost use Rattle.walter_rules.specs.declared.outcome.Outcome.TheVariants as outcome;
     ghost use Rattle.walter_tables.specs.Folding.{IsTidy};
 
-    /// A site that is down, with a disk that it knows nothing of. Where there is no memory the disk comes back. Over a
+    /// A site that is down, with a disk that it knows nothing of. A new journal is of so many areas, and its header names
+    /// this format. Where there is no memory the disk comes back. Over a
     /// journal with the records of a site it stands as these tell. How a new site goes on, over a disk of no bytes or a
     /// journal without records, `begin` says by the disk alone.
     pub fn new(
@@ -69,9 +74,10 @@ impl<D: Disk + Drop> Engine<D> {
         site: SiteId,
         capacity: u64,
         areas: u8,
+        format: Format,
     ) -> Result<Engine<D>, D>
         requires here { site.0 < catalog.now.sites }
-        requires most { catalog.now.sites ≤ most_in First }
+        requires most { catalog.now.sites ≤ most_in format }
         requires fewer { catalog.now.tolerated < catalog.now.sites }
         requires areas { IsAreas areas capacity }
         ensures disk { IfOk result (λ engine. disk_in engine ≡ Some disk) }
@@ -79,14 +85,15 @@ impl<D: Disk + Drop> Engine<D> {
         ensures catalog { IfOk result (λ engine. catalog_in engine ≡ catalog.now) }
         ensures site { IfOk result (λ engine. site_in engine ≡ site) }
         ensures capacity { IfOk result (λ engine. capacity_in engine ≡ capacity) }
-        ensures layout { IfOk result (λ engine. layout_in engine ≡ layout_for areas capacity catalog.now.sites) }
+        ensures layout { IfOk result (λ engine. layout_in engine ≡ layout_for areas capacity catalog.now.sites format) }
         ensures areas { IfOk result (λ engine. engine.areas ≡ areas) }
+        ensures format { IfOk result (λ engine. engine.format ≡ format) }
         ensures fresh { IfOk result IsFresh }
         ensures back { IfErr result (λ back. back ≡ disk) }
         // over a journal with the records of a site that is down, and owes no client anything
         ensures stands { (S : Standing) → S.up ≡ false → S.flight ≡ None → ((client : ℕ) → S.gone client ≡ None)
-            → AreTold catalog.now site S → AreSpelled First catalog.now.sites S
-            → IsOnDisk D.Disk (layout_for areas capacity catalog.now.sites) S disk
+            → AreTold catalog.now site S → AreSpelled format catalog.now.sites S
+            → IsOnDisk D.Disk (layout_for areas capacity catalog.now.sites format) S disk
             → IfOk result (λ engine. Stands engine S) }
     {
         let Ok(copy) = catalog.clone() else {
@@ -97,6 +104,7 @@ impl<D: Disk + Drop> Engine<D> {
             machine: Machine::new(alloc, copy, site),
             capacity,
             areas,
+            format,
             book: None,
             disk: Some(disk),
             ready: Ready::none(alloc),
@@ -224,8 +232,9 @@ impl<D: Disk + Drop> Engine<D> {
             unreachable!()
         };
         let ready = &mut self.ready;
-        let format = self.machine.format();
-        let Ok(()) = self.machine.prepare(event, Format::First, ready) else {
+        let header = book.format();
+        let format = format_in(header, self.machine.format());
+        let Ok(()) = self.machine.prepare(event, header, ready) else {
             self.machine.want(event, came);
             return Effect {
                 frames: Vec::new(self.alloc),
@@ -282,7 +291,14 @@ impl<D: Disk + Drop> Engine<D> {
         let Some(disk) = mem::replace(&mut self.disk, None) else {
             unreachable!()
         };
-        let (mut book, bodies) = match load(self.alloc, disk, self.capacity, self.areas, sites) {
+        let (mut book, bodies) = match load(
+            self.alloc,
+            disk,
+            self.capacity,
+            self.areas,
+            sites,
+            self.format,
+        ) {
             Ok(loaded) => loaded,
             Err((disk, fault)) => {
                 self.disk = Some(disk);
@@ -342,7 +358,14 @@ impl<D: Disk + Drop> Engine<D> {
         let Some(disk) = mem::replace(&mut self.disk, None) else {
             unreachable!()
         };
-        let (mut book, bodies) = match load(self.alloc, disk, self.capacity, self.areas, sites) {
+        let (mut book, bodies) = match load(
+            self.alloc,
+            disk,
+            self.capacity,
+            self.areas,
+            sites,
+            self.format,
+        ) {
             Ok(loaded) => loaded,
             Err((disk, fault)) => {
                 self.disk = Some(disk);
@@ -350,6 +373,7 @@ impl<D: Disk + Drop> Engine<D> {
             }
         };
         self.areas = book.areas();
+        self.format = book.format();
         let begun = begin_over(self.alloc, &mut self.machine, &mut book, bodies.as_slice());
         self.book = Some(book);
         close_unless(self.machine.is_up(), &mut self.book, &mut self.disk);

@@ -3,35 +3,38 @@ ghost use Rattle.std.specs.Prelude.{◌≡◌, ◌≤◌, ◌<◌, map, IfOk, If
 ghost use Rattle.walter_tables.specs.Sites.{site_of, catalog_of};
 ghost use Rattle.walter_engine.specs.Effects.{IsRefusedOver};
 ghost use Rattle.walter_engine.specs.Replays.{Takes, IsUnfit, Tells, IsReadyOver};
-ghost use Rattle.walter_base.specs.declared.format.Format.TheVariants.{First};
+ghost use Rattle.walter_engine.specs.Contents.{says_again};
+ghost use Rattle.walter_rules.specs.Layouts.{in_force};
 ghost use Rattle.walter_base.specs.Sizes.{most_in};
 
 use crate::answers::RefusedRestart;
 use std::alloc::Global;
-use walter_base::{Catalog, Format, NoMemory, SiteId};
+use walter_base::{Catalog, Format, NoMemory, Record, SiteId};
 use walter_machine::{BootFault, Ready};
 use walter_tables::{ReplayFault, Tables};
 
-/// A restart that is ready behind these bodies, and the format of its record. There is none where it is refused for what they are, or memory ran out.
+/// A restart that is ready behind these bodies, whose journal has a header that names this format, and the format of its
+/// record. There is none where it is refused for what they are, or memory ran out.
 pub(crate) fn ready_over(
     alloc: Global,
     catalog: &Catalog,
     id: SiteId,
     bodies: &[Vec<u8>],
+    header: Format,
 ) -> Result<(Ready, Format), Option<RefusedRestart>>
     requires here { id.0 < catalog.now.sites }
-    requires most { catalog.now.sites ≤ most_in First }
+    requires most { catalog.now.sites ≤ most_in header }
     requires fewer { catalog.now.tolerated < catalog.now.sites }
     ensures ready { IfOk result (λ ready.
-        IsReadyOver First catalog.now id (map (λ body. body.items) bodies.now) ready.0 ready.1) }
+        IsReadyOver header catalog.now id (map (λ body. body.items) bodies.now) ready.0 ready.1) }
     ensures refused { IfErr result (λ why.
-        IfSome why (IsRefusedOver First catalog.now id (map (λ body. body.items) bodies.now))) }
+        IfSome why (IsRefusedOver header catalog.now id (map (λ body. body.items) bodies.now))) }
 {
-    let tables = match replay_all(alloc, catalog, id, bodies) {
+    let tables = match replay_all(alloc, catalog, id, bodies, header) {
         Ok(tables) => tables,
         Err(why) => return Err(why),
     };
-    let format = tables.format();
+    let format = format_in(header, tables.format());
     match Ready::boot(alloc, tables) {
         Ok(ready) => Ok((ready, format)),
         Err(BootFault::LastEpoch) => Err(Some(RefusedRestart::LastEpoch)),
@@ -45,15 +48,16 @@ fn replay_all(
     catalog: &Catalog,
     id: SiteId,
     bodies: &[Vec<u8>],
+    header: Format,
 ) -> Result<Tables, Option<RefusedRestart>>
     requires here { id.0 < catalog.now.sites }
-    requires most { catalog.now.sites ≤ most_in First }
+    requires most { catalog.now.sites ≤ most_in header }
     requires fewer { catalog.now.tolerated < catalog.now.sites }
     ensures site { IfOk result (λ tables. site_of tables ≡ id) }
     ensures catalog { IfOk result (λ tables. catalog_of tables ≡ catalog.now) }
-    ensures told { IfOk result (Tells First catalog.now id (map (λ body. body.items) bodies.now)) }
+    ensures told { IfOk result (Tells header catalog.now id (map (λ body. body.items) bodies.now)) }
     ensures refused { IfErr result (λ why.
-        IfSome why (IsRefusedOver First catalog.now id (map (λ body. body.items) bodies.now))) }
+        IfSome why (IsRefusedOver header catalog.now id (map (λ body. body.items) bodies.now))) }
 {
     let Ok(copy) = catalog.clone() else {
         return Err(None);
@@ -62,7 +66,7 @@ fn replay_all(
         return Err(None);
     };
     for (index, body) in bodies.iter().enumerate() {
-        match replay_body(alloc, &mut tables, body, catalog.sites) {
+        match replay_body(alloc, &mut tables, body, catalog.sites, header) {
             Ok(()) => {}
             Err(ReplayFault::Unfit) => {
                 return Err(Some(RefusedRestart::Unreadable {
@@ -75,23 +79,46 @@ fn replay_all(
     Ok(tables)
 }
 
-// Takes the record that the body spells in the format that those before it tell.
+// Takes the record that the body spells in the format in force behind the header and those before it. In the second
+// format none says that this begins.
 fn replay_body(
     alloc: Global,
     tables: &mut Tables,
     body: &[u8],
     sites: u8,
+    header: Format,
 ) -> Result<(), ReplayFault>
     requires sites { (catalog_of tables.old).sites ≡ sites }
-    requires most { sites ≤ most_in First }
-    ensures taken { OnOk result (Takes First tables.old body.now tables.new) }
-    ensures unfit { IfErr result (IsUnfit First tables.old body.now) }
+    requires most { sites ≤ most_in header }
+    ensures taken { OnOk result (Takes header tables.old body.now tables.new) }
+    ensures unfit { IfErr result (IsUnfit header tables.old body.now) }
     ensures site { site_of tables.new ≡ site_of tables.old }
     ensures catalog { catalog_of tables.new ≡ catalog_of tables.old }
 {
-    match walter_record::decode(alloc, body, sites, tables.format()) {
+    let format = format_in(header, tables.format());
+    match walter_record::decode(alloc, body, sites, format) {
+        Ok(Some(rec)) if says_again(&rec, format) => Err(ReplayFault::Unfit),
         Ok(Some(rec)) => tables.replay(rec),
         Ok(None) => Err(ReplayFault::Unfit),
         Err(NoMemory) => Err(ReplayFault::NoMemory),
+    }
+}
+
+/// The format in force: the header's, or the later one that the records tell.
+pub(crate) fn format_in(header: Format, told: Format) -> Format
+    ensures { result ≡ in_force header told }
+{
+    match header {
+        Format::First => told,
+        Format::Second => Format::Second,
+    }
+}
+
+fn says_again(rec: &Record, format: Format) -> bool
+    ensures { result ≡ says_again rec.now format }
+{
+    match rec {
+        Record::Format => format == Format::Second,
+        _ => false,
     }
 }

@@ -1,6 +1,5 @@
 //! A restart of a site over the book of its disk.
 ghost use Rattle.std.specs.Prelude.{◌≡◌, ◌+◌, ◌<◌, ◌≤◌, ◌^◌, [], None, false, map, length, is_some, IfSome, OnErr, OnOk};
-ghost use Rattle.walter_base.specs.declared.format.Format.TheVariants.{First};
 ghost use Rattle.walter_base.specs.Sizes.{most_in};
 ghost use Rattle.walter_disk.specs.Disks.{Fails};
 ghost use Rattle.walter_disk.specs.Images.{LeavesOnly};
@@ -39,7 +38,7 @@ pub(crate) fn raise<D: Disk>(
     requires down { tables_in machine.old ≡ None }
     requires countable { records_in machine.old + 1 < 2 ^ 64 }
     requires sites { (shape_of book.old).sites ≡ (catalog_in machine.old).sites }
-    requires most { (catalog_in machine.old).sites ≤ most_in First }
+    requires most { (catalog_in machine.old).sites ≤ most_in (shape_of book.old).header }
     requires pack_room { HasPackRoom book.old }
     requires ready { IsReady book.old (map (λ body. body.items) bodies.now) }
     requires goes_on { GoesOnBehind book.old (map (λ body. body.items) bodies.now) }
@@ -52,7 +51,7 @@ pub(crate) fn raise<D: Disk>(
         → LeavesOnly D.moment D.left_since (disk_of book.old) (disk_of book.new)
         (MayHaveNext (catalog_in machine.old) layout (site_in machine.old) S event.Restart None) }
     ensures refused { IfSome result (λ why. (disk_of book.new ≡ disk_of book.old)
-        × IsRefusedOver First (catalog_in machine.old) (site_in machine.old) (map (λ body. body.items) bodies.now) why) }
+        × IsRefusedOver (shape_of book.old).header (catalog_in machine.old) (site_in machine.old) (map (λ body. body.items) bodies.now) why) }
     // over any bodies
     ensures over { ComesOf (header_of (layout_of book.old)) (catalog_in machine.old) (site_in machine.old)
         (left_over (layout_of book.old) (map (λ body. body.items) bodies.now))
@@ -67,9 +66,12 @@ pub(crate) fn raise<D: Disk>(
     ensures tells { is_some (D.known (disk_of book.new)).reads ≡ is_some (D.known (disk_of book.old)).reads }
     ensures device { AreCallsOfRestart came.new (calls_before book.old (map (λ body. body.items) bodies.now))
         (D.device_calls (disk_of book.old)) (D.device_calls (disk_of book.new)) }
+    ensures shape { shape_of book.new ≡ shape_of book.old }
     ensures same { IsSameSite machine.old machine.new }
 {
-    let (mut ready, format) = match ready_over(alloc, machine.catalog(), machine.id(), bodies) {
+    let header = book.format();
+    let (mut ready, format) = match ready_over(alloc, machine.catalog(), machine.id(), bodies, header)
+    {
         Ok(ready) => ready,
         Err(why) => {
             machine.rest(hindrance(why), came);
@@ -106,6 +108,7 @@ fn pack_any<D: Disk>(book: &mut Book<D>, bodies: &[Vec<u8>]) -> Result<(), Faile
     requires pack_room { HasPackRoom book.old }
     requires ready { IsReady book.old (map (λ body. body.items) bodies.now) }
     requires goes_on { GoesOnBehind book.old (map (λ body. body.items) bodies.now) }
+    ensures shape { shape_of book.new ≡ shape_of book.old }
     ensures packed { OnOk result (IsPacked book.old book.new (map (λ body. body.items) bodies.now)) }
     ensures any_moment { StandsFor book.old (map (λ body. body.items) bodies.now)
         → LeavesOnly D.moment D.left_since (disk_of book.old) (disk_of book.new)

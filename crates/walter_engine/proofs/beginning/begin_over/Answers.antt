@@ -57,5 +57,6 @@ returns g c =
       at_most = omega (arith, raised.device.at_most, ap (calls_before c.args.book.now) none);
       arms = raised.arms;
       tells = raised.tells;
+      shape = raised.shape;
       same = record { catalog = raised.same.catalog ∙ c.settle.ensures.same.catalog; id = raised.same.id ∙ c.settle.ensures.same.id };
     }

@@ -1,11 +1,11 @@
-use Rattle.std.proofs.Common.{◌≡◌, ◌<◌, map, Bool, true, false, Option, None, refl, sym, ◌∙◌, subst, ap, inr, arith}
+use Rattle.std.proofs.Common.{◌≡◌, ◌<◌, ◌≤◌, map, Bool, true, false, Option, None, refl, sym, ◌∙◌, subst, ap, inr, arith}
 use Rattle.std.proofs.lemmas.Option.{IfSome_then}
 use Rattle.std.specs.Prelude.{IfSome, is_some}
 use Rattle.walter_base.specs.declared.catalog.Catalog.{Catalog}
 use Rattle.walter_base.specs.declared.format.Format.{Format}
-use Rattle.walter_base.specs.declared.format.Format.TheVariants.{First}
 use Rattle.walter_base.specs.declared.message.Record.{Record}
 use Rattle.walter_base.specs.declared.names.SiteId.{SiteId}
+use Rattle.walter_base.specs.Sizes.{most_in}
 use Rattle.walter_checkpoint.specs.Books.{disk_of, shape_of}
 use Rattle.walter_disk.proofs.Moments.{joined}
 use Rattle.walter_disk.specs.Disks.{DiskState}
@@ -46,7 +46,8 @@ ready_over-requires-clause-here g c =
 
 pub ready_over-requires-clause-most : goal.ready_over-requires-clause-most
 ready_over-requires-clause-most g c =
-    omega (arith, ap (λ (x : Catalog). x.sites) c.catalog.ensures, c.requires.most)
+    let most = subst (λ h. (catalog_in c.args.machine.now).sites ≤ most_in h) (sym c.format-header.ensures) c.requires.most in
+    omega (arith, ap (λ (x : Catalog). x.sites) c.catalog.ensures, most)
 
 pub ready_over-requires-clause-fewer : goal.ready_over-requires-clause-fewer
 ready_over-requires-clause-fewer g c =
@@ -78,6 +79,7 @@ returns-in_default g c =
       arms = refl;
       tells = refl;
       device = record { all = rw (ap (λ (x : Came). x.wrote) came) tt; at_most = omega arith };
+      shape = refl;
       same = record { catalog = room.same.catalog; id = room.same.id };
     }
 
@@ -87,8 +89,10 @@ spell_any-requires-clause-sized g c = c.in-Ok.ensures.ready.anyway.ready_for.siz
 pub spell_any-requires-clause-fits : goal.spell_any-requires-clause-fits
 spell_any-requires-clause-fits g c =
     let over = c.in-Ok.ensures.ready in
+    let most = subst (λ h. (catalog_in c.args.machine.now).sites ≤ most_in h) (sym c.format-header.ensures) c.requires.most in
     fits_next c.in-Ok.ready.1 c.catalog.result.now c.id.result over.anyway.S (rec_in c.in-Ok.ready.0)
-    (enough_in c.in-Ok.ready.1 (omega (arith, ap (λ (x : Catalog). x.sites) c.catalog.ensures, c.requires.most)))
+    (subst (λ f. c.catalog.result.now.sites ≤ most_in f) (sym over.told)
+    (enough_in c.format-header.result _ (omega (arith, ap (λ (x : Catalog). x.sites) c.catalog.ensures, most))))
     over.anyway.ready_for.next
 
 -- memory ran out
@@ -119,6 +123,7 @@ returns-in_default-spell_any g c =
       arms = ap (λ (d : DiskState). d.arms) same.disk;
       tells = ap (λ (d : DiskState). is_some d.reads) same.disk;
       device = record { all = rw (ap (λ (x : Came). x.wrote) came) tt; at_most = omega (arith, same.book.device) };
+      shape = same.book.shape;
       same = record { catalog = room.same.catalog; id = room.same.id };
     }
 
@@ -163,12 +168,14 @@ returns-then-is_err g c =
       arms = c.pack_any.ensures.arms ∙ ap (λ (d : DiskState). d.arms) same.disk;
       tells = c.pack_any.ensures.tells ∙ ap (λ (d : DiskState). is_some d.reads) same.disk;
       device = record { all = rw (ap (λ (x : Came). x.wrote) came) tt; at_most = omega (arith, same.book.device, c.pack_any.ensures.at_most, calls) };
+      shape = c.pack_any.ensures.shape ∙ same.book.shape;
       same = record { catalog = room.same.catalog; id = room.same.id };
     }
 
 pub put-requires-clause-anyway : goal.put-requires-clause-anyway
 put-requires-clause-anyway g c =
-    let over = same_parts (λ x k. IsReadyOver First x k (map (λ body. body.items) c.args.bodies.now) c.in-Ok.ready.0 c.in-Ok.ready.1) c.catalog.result.now (catalog_in c.args.machine.now) c.id.result (site_in c.args.machine.now) (sym c.catalog.ensures) (sym c.id.ensures) c.in-Ok.ensures.ready in
+    let over = same_parts (λ x k. IsReadyOver (shape_of c.args.book.now).header x k (map (λ body. body.items) c.args.bodies.now) c.in-Ok.ready.0 c.in-Ok.ready.1) c.catalog.result.now (catalog_in c.args.machine.now) c.id.result (site_in c.args.machine.now) (sym c.catalog.ensures) (sym c.id.ensures)
+    (subst (λ h. IsReadyOver h c.catalog.result.now c.id.result (map (λ body. body.items) c.args.bodies.now) c.in-Ok.ready.0 c.in-Ok.ready.1) c.format-header.ensures c.in-Ok.ensures.ready) in
     let m = c.args.machine.now in
     let m1 = c.make_room.new.self in
     let room = c.make_room.ensures in
@@ -189,8 +196,9 @@ put-requires-clause-spelled g c =
 
 pub put-requires-clause-sites : goal.put-requires-clause-sites
 put-requires-clause-sites g c =
-    enough_in c.in-Ok.ready.1
-    (omega (arith, ap (λ (x : Catalog). x.sites) c.make_room.ensures.same.catalog, c.requires.most))
+    let most = subst (λ h. (catalog_in c.args.machine.now).sites ≤ most_in h) (sym c.format-header.ensures) c.requires.most in
+    subst (λ f. (catalog_in c.make_room.new.self).sites ≤ most_in f) (sym c.in-Ok.ensures.ready.told)
+    (enough_in c.format-header.result _ (omega (arith, ap (λ (x : Catalog). x.sites) c.make_room.ensures.same.catalog, most)))
 
 pub returns : goal.returns
 returns g c =
@@ -205,7 +213,8 @@ returns g c =
     let same = c.spell_any.ensures.same in
     let packed = made c.pack_any.result (sym c.is_err.ensures.value ∙ c.if-is_err.false) c.pack_any.ensures.packed in
     let format = c.in-Ok.ready.1 in
-    let told = same_parts (λ x k. IsReadyOver First x k bodies ready format) c.catalog.result.now catalog c.id.result i (sym c.catalog.ensures) (sym c.id.ensures) c.in-Ok.ensures.ready in
+    let told = same_parts (λ x k. IsReadyOver (shape_of c.args.book.now).header x k bodies ready format) c.catalog.result.now catalog c.id.result i (sym c.catalog.ensures) (sym c.id.ensures)
+    (subst (λ h. IsReadyOver h c.catalog.result.now c.id.result (map (λ body. body.items) c.args.bodies.now) c.in-Ok.ready.0 c.in-Ok.ready.1) c.format-header.ensures c.in-Ok.ensures.ready) in
     let over = subst (λ (h : Format). IsReadyOver h catalog i bodies ready format)
     (sym (laid_header (shape_of c.args.book.now) c.args.book.now.live)) told in
     let laid = same_layout {g = g.D.Disk} c.args.book.now c.spell_any.new.book same.book.shape same.book.live in
@@ -261,6 +270,7 @@ returns g c =
       arms = c.put.ensures.arms ∙ (c.pack_any.ensures.arms ∙ ap (λ (d : DiskState). d.arms) same.disk);
       tells = c.put.ensures.tells ∙ (c.pack_any.ensures.tells ∙ ap (λ (d : DiskState). is_some d.reads) same.disk);
       device = calls_behind c.put.new.came _ _ _ _ (omega (arith, device, same.book.device, calls)) c.put.ensures.device;
+      shape = c.put.ensures.shape ∙ c.pack_any.ensures.shape ∙ same.book.shape;
       same = record { catalog = c.put.ensures.same.catalog ∙ room.same.catalog; id = c.put.ensures.same.id ∙ room.same.id };
     }
 
@@ -271,7 +281,8 @@ rest-requires-clause-rest g c = rw c.hindrance.ensures (hindered_is c.in-Err.why
 pub returns-in-Err : goal.returns-in-Err
 returns-in-Err g c =
     let why = c.in-Err.why in
-    let refused = same_parts (λ x k. IfSome why (IsRefusedOver First x k (map (λ body. body.items) c.args.bodies.now))) c.catalog.result.now (catalog_in c.args.machine.now) c.id.result (site_in c.args.machine.now) (sym c.catalog.ensures) (sym c.id.ensures) c.in-Err.ensures.refused in
+    let refused = same_parts (λ x k. IfSome why (IsRefusedOver (shape_of c.args.book.now).header x k (map (λ body. body.items) c.args.bodies.now))) c.catalog.result.now (catalog_in c.args.machine.now) c.id.result (site_in c.args.machine.now) (sym c.catalog.ensures) (sym c.id.ensures)
+    (subst (λ h. IfSome why (IsRefusedOver h c.catalog.result.now c.id.result (map (λ body. body.items) c.args.bodies.now))) c.format-header.ensures c.in-Err.ensures.refused) in
     let came = c.rest.ensures.came ∙ ap only c.hindrance.ensures in
     record {
       raises = λ layout S lies standing count.
@@ -294,5 +305,6 @@ returns-in-Err g c =
       arms = refl;
       tells = refl;
       device = record { all = rw (ap (λ (x : Came). x.wrote) came) tt; at_most = omega arith };
+      shape = refl;
       same = record { catalog = refl; id = refl };
     }

@@ -7,7 +7,7 @@ use Rattle.walter_checkpoint.specs.declared.book.Book.{Book}
 use Rattle.walter_engine.proofs.Bodies.{some_is}
 use Rattle.walter_engine.proofs.Crashes.{unmoved_next, appends_next}
 use Rattle.walter_engine.proofs.Room.{short_enough, need_is}
-use Rattle.walter_engine.proofs.Written.{fits_next, is_taken, spelling_some, spelling_none, full_is, failed_is, failure_is, fullness_is, holds_none, faults_as, calls_as, sized_as, sized_flying, brings, has, fits_here, lacks_here, leaves_kept, leaves_more, leaves_flying, ups_same, ups_ruled}
+use Rattle.walter_engine.proofs.Written.{fits_next, is_taken, spelling_some, spelling_none, full_is, failed_is, failure_is, fullness_is, holds_none, faults_as, calls_as, sized_as, sized_flying, brings, has, stands_in, fits_here, lacks_here, leaves_kept, leaves_more, leaves_flying, ups_same, ups_ruled}
 use Rattle.walter_engine.proofs.writing.put.Goals as goal
 use Rattle.walter_engine.specs.Stores.{IsKept}
 use Rattle.walter_journal.specs.Journals.{need_of}
@@ -48,6 +48,7 @@ returns-in_default g c =
       sent = λ none. ap (λ (x : Came). x.sends) came ∙ none;
       wrote = λ taken. ap (λ (x : Came). x.wrote) came;
       untouched = λ none. refl;
+      shape = refl;
       sized = sized_as _ c.keep.new.came _ came c.requires.anyway.ready_for.sized;
       framed = c.keep.ensures.framed ∙ c.requires.anyway.ready_for.framed
           ∙ ap (λ (x : Came). map (λ (e : Send). frame_of (catalog_in c.args.machine.now).sites e.1) x.sends) (sym came);
@@ -90,7 +91,8 @@ returns-in-Ok g c =
       leaves = λ layout S standing counted ready_for at spelled kept.
           leaves_more {g = g.D.Disk} g.met.D.Disk.size_is (catalog_in c.args.machine.now) layout (site_in c.args.machine.now) S c.args.event.now spelled c.keep-in-Ok.new.self c.keep-in-Ok.ensures.same.catalog
           c.keep-in-Ok.new.came (c.keep-in-Ok.ensures.stands (header_of layout) S standing counted ready_for) c.append.new.self c.args.book.now s.0 c.args.format c.as_slice.result.now
-          kept at is (has (catalog_in c.args.machine.now) layout (site_in c.args.machine.now) (tables_in c.args.machine.now) S c.args.event.now c.args.ready.now ready_for s.0 s.1 c.args.format c.requires.sites s.2.ranges) c.in-Ok.ensures.ok c.append.ensures.shape c.append.ensures.live
+          kept at is (stands_in (catalog_in c.args.machine.now) layout (site_in c.args.machine.now) (tables_in c.args.machine.now) S c.args.event.now c.args.ready.now ready_for s.0 s.1 c.args.format standing.told at
+          (has (catalog_in c.args.machine.now) layout (site_in c.args.machine.now) (tables_in c.args.machine.now) S c.args.event.now c.args.ready.now ready_for s.0 s.1 c.args.format c.requires.sites s.2.ranges)) c.in-Ok.ensures.ok c.append.ensures.shape c.append.ensures.live
           (brings (catalog_in c.args.machine.now) layout (site_in c.args.machine.now) (tables_in c.args.machine.now) S c.args.event.now c.args.ready.now ready_for s.0 s.1)
           (ap (λ (x : Came). x.wrote) came ∙ s.1) (ap (λ (x : Came). x.flight) came);
       any_moment = λ layout S ready_for at kept.
@@ -101,6 +103,7 @@ returns-in-Ok g c =
       sent = λ none. ap (λ (x : Came). x.sends) came ∙ none;
       wrote = λ taken. ap (λ (x : Came). x.wrote) came;
       untouched = λ none. absurd (let e = sym none ∙ s.1 in cc);
+      shape = c.append.ensures.shape;
       sized = sized_as _ c.keep-in-Ok.new.came _ came c.requires.anyway.ready_for.sized;
       framed = c.keep-in-Ok.ensures.framed ∙ c.requires.anyway.ready_for.framed
           ∙ ap (λ (x : Came). map (λ (e : Send). frame_of (catalog_in c.args.machine.now).sites e.1) x.sends) (sym came);
@@ -135,7 +138,8 @@ returns-in-Err-Failed g c =
       leaves = λ layout S standing counted ready_for at spelled kept.
           leaves_flying {g = g.D.Disk} g.met.D.Disk.size_is (catalog_in c.args.machine.now) layout (site_in c.args.machine.now) S c.args.event.now spelled c.fail.new.self c.fail.ensures.same.catalog
           c.fail.new.came (c.fail.ensures.stands (header_of layout) S standing counted ready_for) c.append.new.self c.args.book.now s.0 c.args.format c.as_slice.result.now
-          kept at is (has (catalog_in c.args.machine.now) layout (site_in c.args.machine.now) (tables_in c.args.machine.now) S c.args.event.now c.args.ready.now ready_for s.0 s.1 c.args.format c.requires.sites s.2.ranges) g.met.D.Disk.counts_now failed.1
+          kept at is (stands_in (catalog_in c.args.machine.now) layout (site_in c.args.machine.now) (tables_in c.args.machine.now) S c.args.event.now c.args.ready.now ready_for s.0 s.1 c.args.format standing.told at
+          (has (catalog_in c.args.machine.now) layout (site_in c.args.machine.now) (tables_in c.args.machine.now) S c.args.event.now c.args.ready.now ready_for s.0 s.1 c.args.format c.requires.sites s.2.ranges)) g.met.D.Disk.counts_now failed.1
           (c.append.ensures.any_moment _ kept.stands) c.fail.ensures.down
           (ap (λ (x : Came). x.wrote) came) (ap (λ (x : Came). x.flight) came);
       any_moment = λ layout S ready_for at kept.
@@ -147,6 +151,7 @@ returns-in-Err-Failed g c =
       sent = λ none. ap (λ (x : Came). x.sends) came;
       wrote = λ taken. absurd (let e = sym (ap is_taken taken) ∙ ap (λ (x : Came). is_taken x.outcome) came ∙ (failure_is c.args.event.now s.0).4 in cc);
       untouched = λ none. absurd (let e = sym none ∙ s.1 in cc);
+      shape = c.append.ensures.shape;
       sized = sized_as _ c.fail.new.came _ came (sized_flying _ c.args.event.now s.0 can);
       framed =
           let none : map (λ (e : Send). frame_of (catalog_in c.args.machine.now).sites e.1) c.fail.new.came.sends ≡ [] = ap (λ (x : Came). map (λ (e : Send). frame_of (catalog_in c.args.machine.now).sites e.1) x.sends) came in
@@ -209,6 +214,7 @@ returns g c =
       sent = λ none. ap (λ (x : Came). x.sends) came;
       wrote = λ taken. absurd (let e = sym (ap is_taken taken) ∙ ap (λ (x : Came). is_taken x.outcome) came ∙ (fullness_is c.args.event.now c.in-Err-Full.need c.in-Err-Full.left).4 in cc);
       untouched = λ none. absurd (let e = sym none ∙ s.1 in cc);
+      shape = c.append.ensures.shape;
       sized = sized_as _ c.overflow.new.came _ came (sized_only _ (fullness c.args.event.now c.in-Err-Full.need c.in-Err-Full.left) (fullness_is c.args.event.now c.in-Err-Full.need c.in-Err-Full.left).2);
       framed =
           let none : map (λ (e : Send). frame_of (catalog_in c.args.machine.now).sites e.1) c.overflow.new.came.sends ≡ [] = ap (λ (x : Came). map (λ (e : Send). frame_of (catalog_in c.args.machine.now).sites e.1) x.sends) came in

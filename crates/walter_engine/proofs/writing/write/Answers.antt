@@ -45,6 +45,7 @@ returns-in-Ok g c =
       up = put.up;
       sent = put.sent;
       wrote = put.wrote;
+      shape = put.shape ∙ same.book.shape;
       untouched = λ none. put.untouched none ∙ ap disk_of (c.spell_any.ensures.untouched none);
       sized = put.sized;
       framed = put.framed;
@@ -77,6 +78,7 @@ returns-in-Err g c =
       up = sym (ap (λ (x : Came). up_after c.args.event.now x.outcome (is_up c.args.machine.now)) came ∙ (want_is c.args.event.now).3 (is_up c.args.machine.now));
       sent = λ none. ap (λ (x : Came). x.sends) came;
       wrote = λ taken. absurd (let e = sym (ap is_taken taken) ∙ ap (λ (x : Came). is_taken x.outcome) came ∙ (want_is c.args.event.now).4 in cc);
+      shape = same.book.shape;
       untouched = λ none. absurd (let e = sym c.in-Err.ensures.free ∙ ap is_some none in cc);
       sized = sized_as _ c.want.new.came _ came (sized_only _ (want c.args.event.now) (want_is c.args.event.now).2);
       framed =

@@ -1,22 +1,22 @@
-use Rattle.std.proofs.Common.{◌≡◌, [], ℕ, List, map, Bool, false, Option, Some, None, refl, sym, ◌∙◌, subst, ap, arith}
+use Rattle.std.proofs.Common.{◌≡◌, ◌≤◌, [], ℕ, List, map, Bool, false, Option, Some, None, refl, sym, ◌∙◌, subst, ap, arith}
 use Rattle.std.specs.Prelude.{IfSome, not}
 use Rattle.walter_base.specs.declared.catalog.Catalog.{Catalog}
 use Rattle.walter_base.specs.declared.format.Format.{Format}
-use Rattle.walter_base.specs.declared.format.Format.TheVariants.{First}
+use Rattle.walter_base.specs.Sizes.{most_in}
 use Rattle.walter_base.specs.declared.message.Record.{Record}
 use Rattle.walter_disk.specs.Images.{LeavesOnly}
 use Rattle.walter_engine.specs.Contents.{AreSpelled, MayHaveNext}
 use Rattle.walter_engine.specs.Engines.{layout_for, Stands}
 use Rattle.walter_engine.specs.Writings.{IsFormatAt}
-use Rattle.walter_engine.specs.Stores.{book_if, disk_if, disk_under, IsLeft, IsStored}
-use Rattle.walter_checkpoint.specs.Books.{disk_of}
+use Rattle.walter_engine.specs.Stores.{book_if, disk_if, disk_under, header_under, IsLeft, IsStored}
+use Rattle.walter_checkpoint.specs.Books.{disk_of, shape_of}
 use Rattle.walter_machine.specs.Machines.{catalog_in, site_in, tables_in}
 use Rattle.walter_machine.specs.Readiness.{rec_in, IsReadyFor}
 use Rattle.walter_rules.specs.declared.entry.Came.{Came}
 use Rattle.walter_rules.specs.Standing.{Standing, stands_after}
 use Rattle.walter_rules.specs.Trails.{Comes, TakesMemory, want}
 use Rattle.walter_engine.proofs.Crashes.{unmoved_next}
-use Rattle.walter_engine.proofs.Laid.{for_header}
+use Rattle.walter_engine.proofs.Laid.{laid_as}
 use Rattle.walter_engine.proofs.Loads.{stands_left, always}
 use Rattle.walter_engine.proofs.Spelled.{enough_in, told_format}
 use Rattle.walter_engine.proofs.Taking.{same_parts, come_as, stop_brings, counted_up, none_of}
@@ -26,15 +26,15 @@ use Rattle.walter_machine.proofs.Sizes.{sized_only}
 use Rattle.walter_machine.specs.Comings.{is_faulty, IsSized}
 use Rattle.walter_packet.specs.Framed.{frame_of}
 use Rattle.walter_rules.specs.Calls.{Expected}
-use Rattle.walter_rules.specs.Layouts.{header_of, format_at}
+use Rattle.walter_rules.specs.Layouts.{header_of, in_force, format_at}
 use Rattle.walter_rules.specs.Rule.{rule}
 use Rattle.walter_rules.specs.Sending.{Send}
 
 pub returns-in_default-prepare : goal.returns-in_default-prepare
 returns-in_default-prepare g c =
-    let layout = layout_for c.args.self.now.areas c.args.self.now.capacity (catalog_in c.args.self.now.machine).sites in
-    let same_layout : layout_for c.args.self.now.areas c.args.self.now.capacity (catalog_in c.prepare.new.self).sites ≡ layout =
-    ap (λ (x : Catalog). layout_for c.args.self.now.areas c.args.self.now.capacity x.sites) c.prepare.ensures.same.catalog in
+    let layout = layout_for c.args.self.now.areas c.args.self.now.capacity (catalog_in c.args.self.now.machine).sites c.args.self.now.format in
+    let same_layout : layout_for c.args.self.now.areas c.args.self.now.capacity (catalog_in c.prepare.new.self).sites c.args.self.now.format ≡ layout =
+    ap (λ (x : Catalog). layout_for c.args.self.now.areas c.args.self.now.capacity x.sites c.args.self.now.format) c.prepare.ensures.same.catalog in
     let was = c.in-Some.is in
     let before = ap (λ o. disk_under {g = g.D.Disk} o c.args.self.now.disk) was in
     let came = c.want.ensures.came in
@@ -86,23 +86,29 @@ write-frames-requires-clause-room g c down = absurd (let e = sym c.prepare.ensur
 
 pub write-frames-requires-clause-sites : goal.write-frames-requires-clause-sites
 write-frames-requires-clause-sites g c =
-    enough_in c.format-format.result
-    (omega (arith, ap (λ (x : Catalog). x.sites) c.prepare.ensures.same.catalog, c.args.self.now.most))
+    let places = subst (λ o. (catalog_in c.args.self.now.machine).sites ≤ most_in (header_under {g = g.D.Disk} o c.args.self.now.format)) c.in-Some.is c.args.self.now.places in
+    subst (λ f. (catalog_in c.prepare.new.self).sites ≤ most_in f) (sym (c.format_in-format.ensures ∙ ap (λ h. in_force h c.format.result) c.format-header.ensures))
+    (enough_in (shape_of c.in-Some.book).header c.format.result
+    (omega (arith, ap (λ (x : Catalog). x.sites) c.prepare.ensures.same.catalog, places)))
 
 pub returns : goal.returns
 returns g c =
-    let layout = layout_for c.args.self.now.areas c.args.self.now.capacity (catalog_in c.args.self.now.machine).sites in
-    let same_layout : layout_for c.args.self.now.areas c.args.self.now.capacity (catalog_in c.write-frames.new.machine).sites ≡ layout =
-    ap (λ (x : Catalog). layout_for c.args.self.now.areas c.args.self.now.capacity x.sites) (c.write-frames.ensures.same.catalog ∙ c.prepare.ensures.same.catalog) in
+    let layout = layout_for c.args.self.now.areas c.args.self.now.capacity (catalog_in c.args.self.now.machine).sites c.args.self.now.format in
+    let same_layout : layout_for c.args.self.now.areas c.args.self.now.capacity (catalog_in c.write-frames.new.machine).sites c.args.self.now.format ≡ layout =
+    ap (λ (x : Catalog). layout_for c.args.self.now.areas c.args.self.now.capacity x.sites c.args.self.now.format) (c.write-frames.ensures.same.catalog ∙ c.prepare.ensures.same.catalog) in
     let was = c.in-Some.is in
     let before = ap (λ o. disk_under {g = g.D.Disk} o c.args.self.now.disk) was in
     let now = c.close_unless.ensures.same in
-    let first = for_header c.args.self.now.areas c.args.self.now.capacity (catalog_in c.args.self.now.machine).sites in
+    -- the header is that of the book
+    let first : (S : Standing) → Stands {g = g.D.Disk} c.args.self.now S → c.format-header.result ≡ header_of layout = λ S stands.
+    c.format-header.ensures
+    ∙ sym (laid_as {g = g.D.Disk} c.in-Some.book layout (subst (λ o. IsStored {g = g.D.Disk} layout S o c.args.self.now.disk) was stands.stored).laid) in
     -- the format of its record is the one in force
-    let at : (S : Standing) → Stands {g = g.D.Disk} c.args.self.now S → IsFormatAt c.format-format.result layout S = λ S stands.
-    c.format-format.ensures S stands.machine (state_up S (tables_in c.args.self.now.machine) stands.machine.state ∙ c.requires.up)
-    ∙ told_format First (catalog_in c.args.self.now.machine) (site_in c.args.self.now.machine) S stands.machine.told
-    ∙ ap (λ (h : Format). format_at h S.records) (sym first) in
+    let at : (S : Standing) → Stands {g = g.D.Disk} c.args.self.now S → IsFormatAt c.format_in-format.result layout S = λ S stands.
+    c.format_in-format.ensures
+    ∙ ap (in_force c.format-header.result) (c.format.ensures S stands.machine (state_up S (tables_in c.args.self.now.machine) stands.machine.state ∙ c.requires.up))
+    ∙ told_format c.format-header.result (catalog_in c.args.self.now.machine) (site_in c.args.self.now.machine) S stands.machine.told
+    ∙ ap (λ (h : Format). format_at h S.records) (first S stands) in
     record {
       taken =
           record {
@@ -112,7 +118,7 @@ returns g c =
                 let stored = subst (λ o. IsStored {g = g.D.Disk} layout S o c.args.self.now.disk) was stands.stored in
                 let spelled = subst (λ (x : Catalog). AreSpelled (header_of layout) x.sites S) (sym c.prepare.ensures.same.catalog) stands.spellings in
                 let ready_for = (same_parts (λ x k. IsReadyFor (header_of layout) x k (tables_in c.prepare.new.self) S c.args.event.now c.prepare.new.ready) (catalog_in c.args.self.now.machine) (catalog_in c.prepare.new.self) (site_in c.args.self.now.machine) (site_in c.prepare.new.self) c.prepare.ensures.same.catalog c.prepare.ensures.same.id
-                (subst (λ (h : Format). IsReadyFor h (catalog_in c.args.self.now.machine) (site_in c.args.self.now.machine) (tables_in c.prepare.new.self) S c.args.event.now c.prepare.new.ready) (sym first) (c.in-Ok.ensures.ready S stands.machine))) in
+                (subst (λ (h : Format). IsReadyFor h (catalog_in c.args.self.now.machine) (site_in c.args.self.now.machine) (tables_in c.prepare.new.self) S c.args.event.now c.prepare.new.ready) (first S stands) (c.in-Ok.ensures.ready S stands.machine))) in
                 let counted = counted_up c.prepare.new.self S (rec_in c.prepare.new.ready) (up ∙ c.requires.up) standing in
                 let book_is = c.close_unless.ensures.book ∙ ap (λ (b : Bool). book_if b c.write-frames.new.book) c.is_up.ensures in
                 let disk_is = c.close_unless.ensures.bare ∙ ap (λ (b : Bool). disk_if {g = g.D.Disk} b c.write-frames.new.book) c.is_up.ensures in
@@ -125,7 +131,7 @@ returns g c =
                 (stands_left {g = g.D.Disk} _ _ c.write-frames.new.book layout same_layout left book_is disk_is);
             any_moment = λ S stands.
                 let ready_for = (same_parts (λ x k. IsReadyFor (header_of layout) x k (tables_in c.prepare.new.self) S c.args.event.now c.prepare.new.ready) (catalog_in c.args.self.now.machine) (catalog_in c.prepare.new.self) (site_in c.args.self.now.machine) (site_in c.prepare.new.self) c.prepare.ensures.same.catalog c.prepare.ensures.same.id
-                (subst (λ (h : Format). IsReadyFor h (catalog_in c.args.self.now.machine) (site_in c.args.self.now.machine) (tables_in c.prepare.new.self) S c.args.event.now c.prepare.new.ready) (sym first) (c.in-Ok.ensures.ready S stands.machine))) in
+                (subst (λ (h : Format). IsReadyFor h (catalog_in c.args.self.now.machine) (site_in c.args.self.now.machine) (tables_in c.prepare.new.self) S c.args.event.now c.prepare.new.ready) (first S stands) (c.in-Ok.ensures.ready S stands.machine))) in
                 rw (before, c.close_unless.ensures.same)
                 (same_parts (λ x k. LeavesOnly g.D.Disk.moment g.D.Disk.left_since (disk_of c.in-Some.book) (disk_of c.write-frames.new.book) (MayHaveNext x layout k S c.args.event.now c.write-frames.new.came.kept))
                 (catalog_in c.prepare.new.self) (catalog_in c.args.self.now.machine) (site_in c.prepare.new.self) (site_in c.args.self.now.machine) (sym c.prepare.ensures.same.catalog) (sym c.prepare.ensures.same.id)

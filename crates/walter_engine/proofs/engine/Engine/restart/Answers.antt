@@ -2,7 +2,8 @@ use Rattle.std.proofs.Common.{◌≡◌, ◌≤◌, ◌<◌, ◌+◌, ◌^◌, [
 use Rattle.std.specs.Prelude.{IfSome, IsSome}
 use Rattle.walter_base.specs.declared.catalog.Catalog.{Catalog}
 use Rattle.walter_disk.specs.Images.{LeavesOnly}
-use Rattle.walter_engine.specs.Contents.{AreSpelled, MayHaveNext}
+use Rattle.walter_base.specs.Sizes.{most_in}
+use Rattle.walter_engine.specs.Contents.{AreSpelled, headed, MayHaveNext}
 use Rattle.walter_engine.specs.Stores.{book_if, disk_if, IsStored}
 use Rattle.walter_machine.specs.Machines.{catalog_in, site_in, tables_in}
 use Rattle.walter_rules.specs.declared.entry.Came.{Came}
@@ -22,13 +23,13 @@ use Rattle.walter_engine.specs.Raises.{Raises, unloaded_by}
 use Rattle.walter_engine.specs.Restarts.{ComesOf, left_over}
 use Rattle.walter_engine.specs.declared.answers.RefusedRestart.{RefusedRestart}
 use Rattle.walter_checkpoint.specs.Areas.{Shape, shape_by}
-use Rattle.walter_checkpoint.specs.Books.{disk_of, StandsFor}
+use Rattle.walter_checkpoint.specs.Books.{disk_of, shape_of, StandsFor}
 use Rattle.walter_checkpoint.specs.Faults.{HasCause}
 use Rattle.walter_checkpoint.specs.Loads.{calls_of_load}
 use Rattle.walter_engine.specs.Engines.{layout_for}
 use Rattle.walter_engine.specs.Raises.{calls_before}
 use Rattle.walter_engine.specs.Stores.{layout_by, layout_of}
-use Rattle.walter_engine.proofs.Laid.{for_is, for_header, found_is}
+use Rattle.walter_engine.proofs.Laid.{for_is, found_is}
 use Rattle.walter_rules.specs.Layouts.{header_of}
 use Rattle.walter_machine.proofs.Sizes.{sized_only}
 use Rattle.walter_machine.specs.Comings.{is_faulty, IsFaulty, IsSized}
@@ -45,12 +46,12 @@ returns-in-Err g c =
     let now = disk_bare g.D.Disk c.args.self.now.book (Some c.in-Err.disk) closed in
     let law = c.books_differ.ensures in
     let load = c.in-Err.ensures in
-    let shape = shape_by c.args.self.now.capacity (catalog_in c.args.self.now.machine).sites in
-    let layout = layout_for c.args.self.now.areas c.args.self.now.capacity (catalog_in c.args.self.now.machine).sites in
-    let for_ = for_is c.args.self.now.areas c.args.self.now.capacity (catalog_in c.args.self.now.machine).sites in
-    let same_shape = ap (λ n. shape_by c.args.self.now.capacity n) c.sites-sites.ensures in
+    let shape = shape_by c.args.self.now.capacity (catalog_in c.args.self.now.machine).sites c.args.self.now.format in
+    let layout = layout_for c.args.self.now.areas c.args.self.now.capacity (catalog_in c.args.self.now.machine).sites c.args.self.now.format in
+    let for_ = for_is c.args.self.now.areas c.args.self.now.capacity (catalog_in c.args.self.now.machine).sites c.args.self.now.format in
+    let same_shape = ap (λ n. shape_by c.args.self.now.capacity n c.args.self.now.format) c.sites-sites.ensures in
     let low : c.args.self.now.capacity < 2 ^ 64 = omega arith in
-    let cause = subst (λ (s : Shape). HasCause s c.in-Err.fault (g.D.Disk.may_leave c.in-Some.disk) (g.D.Disk.known c.in-Some.disk) (g.D.Disk.known c.in-Err.disk)) same_shape load.cause in
+    let cause = subst (λ (n : ℕ). HasCause c.args.self.now.capacity n c.in-Err.fault (g.D.Disk.may_leave c.in-Some.disk) (g.D.Disk.known c.in-Some.disk) (g.D.Disk.known c.in-Err.disk)) c.sites-sites.ensures load.cause in
     let is_came = c.rest.ensures.came ∙ ap (λ (p : Outcome × Option RefusedRestart). only p.0) c.unloaded-outcome.ensures in
     let is_why = ap (λ (p : Outcome × Option RefusedRestart). p.1) c.unloaded-outcome.ensures in
     record {
@@ -62,7 +63,8 @@ returns-in-Err g c =
                 let down = state_up S (tables_in c.args.self.now.machine) stands.machine.state ∙ c.requires.down in
                 let still = rests_on g.D.Disk g.met.D.Disk.size_is g.met.D.Disk.counts_now layout S c.in-Some.disk c.in-Err.disk resting load.tells
                 (load.settled resting.begun) (load.any_moment resting.begun) in
-                come_unloaded {g = g.D.Disk} shape (λ bytes bodies. law.content_or_foreign shape bytes bodies) (λ bytes bodies at claimed. law.content_or_damaged shape bytes bodies at claimed low) layout for_ S c.in-Some.disk c.in-Err.disk resting load.tells
+                come_unloaded {g = g.D.Disk} shape (λ bytes bodies. law.content_or_foreign shape bytes bodies c.args.self.now.most)
+                (λ bytes bodies at claimed. law.content_or_damaged shape.capacity shape.sites shape.header bytes bodies at claimed low) layout for_ S c.in-Some.disk c.in-Err.disk resting load.tells
                 (catalog_in c.args.self.now.machine) (site_in c.args.self.now.machine) c.in-Err.fault c.rest.new.came _ _ down cause is_came is_why
                 (stands_same {g = g.D.Disk} _ (catalog_in c.args.self.now.machine) (site_in c.args.self.now.machine) S Restart c.rest.new.came (c.rest.ensures.stands S stands.machine down) layout refl stands.spellings (stored_bare g.D.Disk layout S c.args.self.now.book c.in-Err.disk closed still) closed
                 (ap (λ (x : Came). x.wrote) is_came) (ap (λ (x : Came). x.flight) is_came)
@@ -85,7 +87,7 @@ returns-in-Err g c =
                 cc;
             none_dropped = ap (λ (x : Came). x.dropped) is_came;
             faults = rw (before, now) (faults_as c.rest.new.came _ _ _ (ap (λ (x : Came). is_faulty x.outcome) is_came)
-                (unloaded_faults shape c.in-Err.fault _ _ _ cause));
+                (unloaded_faults shape.capacity shape.sites c.in-Err.fault _ _ _ cause));
             arms = rw (before, now) load.arms;
             tells = rw (before, now) load.tells;
             engine = record { catalog = refl; site = refl; capacity = refl; layout = refl };
@@ -111,15 +113,17 @@ returns g c =
     let before = disk_bare g.D.Disk c.args.self.now.book c.args.self.now.disk closed ∙ was in
     let law = c.books_differ.ensures in
     let load = c.in-Ok.ensures in
-    let shape = shape_by c.args.self.now.capacity (catalog_in c.args.self.now.machine).sites in
-    let layout = layout_for c.args.self.now.areas c.args.self.now.capacity (catalog_in c.args.self.now.machine).sites in
-    let for_ = for_is c.args.self.now.areas c.args.self.now.capacity (catalog_in c.args.self.now.machine).sites in
-    let first = for_header c.args.self.now.areas c.args.self.now.capacity (catalog_in c.args.self.now.machine).sites in
-    let same_shape = ap (λ n. shape_by c.args.self.now.capacity n) c.sites-sites.ensures in
+    let shape = shape_by c.args.self.now.capacity (catalog_in c.args.self.now.machine).sites c.args.self.now.format in
+    let layout = layout_for c.args.self.now.areas c.args.self.now.capacity (catalog_in c.args.self.now.machine).sites c.args.self.now.format in
+    let for_ = for_is c.args.self.now.areas c.args.self.now.capacity (catalog_in c.args.self.now.machine).sites c.args.self.now.format in
+    let same_shape = ap (λ n. shape_by c.args.self.now.capacity n c.args.self.now.format) c.sites-sites.ensures in
     let low : c.args.self.now.capacity < 2 ^ 64 = omega arith in
-    let shape_is = load.shape ∙ same_shape in
-    let same_layout : layout_for c.args.self.now.areas c.args.self.now.capacity (catalog_in c.raise-refused.new.machine).sites ≡ layout =
-    ap (λ (x : Catalog). layout_for c.args.self.now.areas c.args.self.now.capacity x.sites) (c.raise-refused.ensures.same.catalog ∙ c.settle-kept.ensures.same.catalog) in
+    let header = (shape_of c.in-Ok.loaded.0).header in
+    let shape_is = load.shape ∙ ap (λ n. shape_by c.args.self.now.capacity n header) c.sites-sites.ensures in
+    let places = subst (λ n. n ≤ most_in header) c.sites-sites.ensures load.places in
+    let one_content = λ h other bytes a b. law.content shape.capacity shape.sites h other bytes a b low in
+    let same_layout : layout_for c.args.self.now.areas c.args.self.now.capacity (catalog_in c.raise-refused.new.machine).sites c.args.self.now.format ≡ layout =
+    ap (λ (x : Catalog). layout_for c.args.self.now.areas c.args.self.now.capacity x.sites c.args.self.now.format) (c.raise-refused.ensures.same.catalog ∙ c.settle-kept.ensures.same.catalog) in
     let bodies = map (λ body. body.items) c.as_slice-bodies.result.now in
     let before_record = calls_before {g = g.D.Disk} c.in-Ok.loaded.0 bodies in
     let loads : g.D.Disk.device_calls (disk_of c.in-Ok.loaded.0) ≡ g.D.Disk.device_calls c.in-Some.disk + calls_of_load shape c.args.self.now.areas (g.D.Disk.known c.in-Some.disk).size =
@@ -136,10 +140,10 @@ returns g c =
                 (subst (λ o. IsStored {g = g.D.Disk} layout S c.args.self.now.book o) was stands.stored) in
                 let down = state_up S (tables_in c.args.self.now.machine) stands.machine.state ∙ c.requires.down in
                 let one = subst (λ (b : List (List ℕ)). StandsFor {g = g.D.Disk} c.in-Ok.loaded.0 b) (sym c.as_slice-bodies.ensures) (load.loaded resting.told) in
-                let there = there_loaded {g = g.D.Disk} shape (λ bytes a b. law.content shape bytes a b low) layout for_ first S c.in-Some.disk c.in-Ok.loaded.0 shape_is bodies resting (load.image resting.begun) one in
+                let there = there_loaded {g = g.D.Disk} shape one_content layout for_ S c.in-Some.disk c.in-Ok.loaded.0 shape_is bodies resting (load.image resting.begun) one in
                 let count = length-map c.as_slice-bodies.result.now (λ body. body.items) in
                 let settles = c.settle-kept.ensures.settles S stands.machine (subst (λ (n : ℕ). AreFound S n) count (found_there (header_of layout) S (map (λ body. body.items) c.as_slice-bodies.result.now) there)) in
-                let lies = lies_settled {g = g.D.Disk} shape (λ bytes a b. law.content shape bytes a b low) layout for_ first S c.in-Some.disk c.in-Ok.loaded.0 shape_is bodies resting (load.image resting.begun) one (catalog_in c.settle-kept.new.self) (site_in c.settle-kept.new.self) c.settle-kept.result
+                let lies = lies_settled {g = g.D.Disk} shape one_content layout for_ S c.in-Some.disk c.in-Ok.loaded.0 shape_is bodies resting (load.image resting.begun) one (catalog_in c.settle-kept.new.self) (site_in c.settle-kept.new.self) c.settle-kept.result
                 (subst (λ (x : Catalog). AreSpelled (header_of layout) x.sites S) (sym c.settle-kept.ensures.same.catalog) stands.spellings) down settles.stands.told
                 settles.is_found (count ∙ settles.count) in
                 let raises = c.raise-refused.ensures.raises layout (settled (catalog_in c.settle-kept.new.self) (site_in c.settle-kept.new.self) c.settle-kept.result S) lies settles.stands (settles.counted ∙ settles.count) in
@@ -153,10 +157,10 @@ returns g c =
                 (subst (λ o. IsStored {g = g.D.Disk} layout S c.args.self.now.book o) was stands.stored) in
                 let down = state_up S (tables_in c.args.self.now.machine) stands.machine.state ∙ c.requires.down in
                 let one = subst (λ (b : List (List ℕ)). StandsFor {g = g.D.Disk} c.in-Ok.loaded.0 b) (sym c.as_slice-bodies.ensures) (load.loaded resting.told) in
-                let there = there_loaded {g = g.D.Disk} shape (λ bytes a b. law.content shape bytes a b low) layout for_ first S c.in-Some.disk c.in-Ok.loaded.0 shape_is bodies resting (load.image resting.begun) one in
+                let there = there_loaded {g = g.D.Disk} shape one_content layout for_ S c.in-Some.disk c.in-Ok.loaded.0 shape_is bodies resting (load.image resting.begun) one in
                 let count = length-map c.as_slice-bodies.result.now (λ body. body.items) in
                 let settles = c.settle-kept.ensures.settles S stands.machine (subst (λ (n : ℕ). AreFound S n) count (found_there (header_of layout) S (map (λ body. body.items) c.as_slice-bodies.result.now) there)) in
-                let lies = lies_settled {g = g.D.Disk} shape (λ bytes a b. law.content shape bytes a b low) layout for_ first S c.in-Some.disk c.in-Ok.loaded.0 shape_is bodies resting (load.image resting.begun) one (catalog_in c.settle-kept.new.self) (site_in c.settle-kept.new.self) c.settle-kept.result
+                let lies = lies_settled {g = g.D.Disk} shape one_content layout for_ S c.in-Some.disk c.in-Ok.loaded.0 shape_is bodies resting (load.image resting.begun) one (catalog_in c.settle-kept.new.self) (site_in c.settle-kept.new.self) c.settle-kept.result
                 (subst (λ (x : Catalog). AreSpelled (header_of layout) x.sites S) (sym c.settle-kept.ensures.same.catalog) stands.spellings) down settles.stands.told
                 settles.is_found (count ∙ settles.count) in
                 rw (before, c.close_unless.ensures.same)
@@ -168,6 +172,7 @@ returns g c =
                 (same_parts (λ x k. IfSome (g.D.Disk.known (disk_of c.raise-refused.new.book)).reads (λ bytes. IfSome c.raise-refused.result (IsRefusedFor x shape k bytes)))
                 (catalog_in c.settle-kept.new.self) (catalog_in c.args.self.now.machine) (site_in c.settle-kept.new.self) (site_in c.args.self.now.machine) (sym c.settle-kept.ensures.same.catalog) (sym c.settle-kept.ensures.same.id)
                 (refused_loaded {g = g.D.Disk} (catalog_in c.settle-kept.new.self) shape (site_in c.settle-kept.new.self) c.in-Some.disk (disk_of c.raise-refused.new.book) c.in-Ok.loaded.0 bodies c.raise-refused.result shape_is
+                places
                 (λ told. subst (λ (b : List (List ℕ)). StandsFor {g = g.D.Disk} c.in-Ok.loaded.0 b) (sym c.as_slice-bodies.ensures) (load.loaded told))
                 load.tells c.raise-refused.ensures.refused));
             why = has_cause _ (catalog_in c.settle-kept.new.self) (site_in c.settle-kept.new.self) (left_over (layout_of c.in-Ok.loaded.0) bodies) (map (λ body. body.items) c.as_slice-bodies.result.now) c.raise-refused.new.came.wrote c.raise-refused.result c.raise-refused.new.came.outcome
@@ -199,11 +204,13 @@ returns g c =
       });
       restarts =
           rw before (restarts_loaded g.D.Disk g.met.D.Disk.size_is (catalog_in c.args.self.now.machine) shape layout (site_in c.args.self.now.machine) c.in-Some.disk c.in-Ok.loaded.0
-          bodies (record c.raise-refused.new.came { kept = c.settle-kept.result }) c.raise-refused.result shape_is
+          bodies (record c.raise-refused.new.came { kept = c.settle-kept.result }) c.raise-refused.result shape_is places
           (λ told. subst (λ (b : List (List ℕ)). StandsFor {g = g.D.Disk} c.in-Ok.loaded.0 b) (sym is_bodies) (load.loaded told))
           (λ size. is_bodies ∙ load.fresh size)
-          (λ size. ap (λ (s : Shape). layout_by s c.in-Ok.loaded.0.live) shape_is ∙ sym (found_is shape c.in-Ok.loaded.0.live)
-          ∙ ap (λ n. layout_for n c.args.self.now.capacity (catalog_in c.args.self.now.machine).sites) (load.made size))
+          (λ size. ap (λ (s : Shape). layout_by s c.in-Ok.loaded.0.live) shape_is
+          ∙ sym (found_is (headed header shape) c.in-Ok.loaded.0.live)
+          ∙ ap (λ n. layout_for n c.args.self.now.capacity (catalog_in c.args.self.now.machine).sites header) (load.made size).0
+          ∙ ap (λ h. layout_for c.args.self.now.areas c.args.self.now.capacity (catalog_in c.args.self.now.machine).sites h) (load.made size).1)
           load.image over);
     }
 
@@ -213,4 +220,5 @@ raise-refused-requires-clause-sites g c =
 
 pub raise-refused-requires-clause-most : goal.raise-refused-requires-clause-most
 raise-refused-requires-clause-most g c =
-    omega (arith, ap (λ (x : Catalog). x.sites) c.settle-kept.ensures.same.catalog, c.args.self.now.most)
+    let here : c.sites-sites.result ≤ most_in (shape_of c.in-Ok.loaded.0).header = c.in-Ok.ensures.places in
+    omega (arith, ap (λ (x : Catalog). x.sites) c.settle-kept.ensures.same.catalog, c.sites-sites.ensures, here)
