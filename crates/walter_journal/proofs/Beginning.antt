@@ -1,7 +1,11 @@
 -- A disk of no bytes while a journal is begun on it.
-use Rattle.std.proofs.Common.{◌≤◌, inl, inr, ⊎_elim, ℕ, List, [], length, ap, arith}
+use Rattle.std.proofs.Common.{◌≡◌, ◌≤◌, inl, inr, ⊎_elim, ℕ, List, [], ◌∷◌, ◌++◌, length, Option, None, Some, ap, arith}
+use Rattle.std.specs.Prelude.{IfSome}
+use Rattle.std.proofs.lemmas.List.Elements.{All-nil}
+use Rattle.walter_base.specs.declared.format.Format.{Format}
 use Rattle.walter_disk.specs.Images.{Torn, Only, Narrows, Elapses, LeavesOnly}
 use Rattle.walter_disk.proofs.Moments.{weaker, joined}
+use Rattle.walter_journal.specs.Layout.{header_in, IsShort, HasContent}
 
 -- a write of so many bytes on none leaves no more than these
 torn_none : (count : ℕ) (image : List ℕ) → Torn 0 count [] image → length image ≤ count
@@ -20,3 +24,8 @@ module _ {D : Type 0} (moment : D → ℕ) (left_since : D → ℕ → List ℕ 
         before = λ t image le left. ⊎_elim (λ was. inl was) (λ is. inr (empty image (narrows image is))) (elapses.nothing_else t image le left);
       } in
       joined moment left_since old mid new _ room (weaker moment left_since mid new _ _ (torn_none count) run)
+
+-- the bytes of a new journal have no body
+pub new_content : (format : Format) (reads : Option (List ℕ)) → IfSome reads (λ bytes. bytes ≡ header_in format ++ 0 ∷ []) → IfSome reads (λ bytes. HasContent format bytes [])
+new_content format None told = tt
+new_content format (Some bytes) told = record { gate = 0; rest = []; is = told; closed = omega arith; fit = All-nil IsShort }

@@ -8,7 +8,9 @@ use Rattle.std.specs.List.{AllByRecursion}
 use Rattle.std.specs.Prelude.{sum_by}
 use Rattle.byteorder.specs.Numbers.{big_number-reads_back}
 use Rattle.byteorder.specs.Endian.{big_bytes, big_number}
-use Rattle.walter_journal.specs.Layout.{header, record_of, records, end_behind, span_of, IsShort, HasBehind, HasContent, ClaimsTooMuch, IsDamaged}
+use Rattle.walter_base.specs.declared.format.Format.{Format}
+use Rattle.walter_base.specs.declared.format.Format.TheVariants.{First, Second}
+use Rattle.walter_journal.specs.Layout.{digit_of, header_in, record_of, records, end_behind, span_of, IsShort, HasBehind, HasContent, IsForeign, ClaimsTooMuch, IsDamagedBehind, IsDamaged}
 
 -- the length at the front of a record
 pub record_length : (body next : List ℕ) → IsShort body → big_number 4 (record_of body ++ next) ≡ length body
@@ -47,9 +49,28 @@ same_records (x ∷ a) (y ∷ b) s t short_a short_b ends_s ends_t e =
     let others = same_records a b s t short_a.1 short_b.1 ends_s ends_t first.1 in
     (λ i. first.0 i ∷ others.0 i, others.1)
 
-pub same_layout : (a b : List (List ℕ)) (s t : List ℕ) → All IsShort a → All IsShort b → EndsRecords s → EndsRecords t → header ++ records a ++ s ≡ header ++ records b ++ t → (a ≡ b) × (s ≡ t)
-same_layout a b s t short_a short_b ends_s ends_t e =
-    same_records a b s t (recursion_from_All IsShort a short_a) (recursion_from_All IsShort b short_b) ends_s ends_t (ap (drop 8) e)
+-- so they are behind the same bytes in front
+pub same_layout : (front : List ℕ) (a b : List (List ℕ)) (s t : List ℕ) → All IsShort a → All IsShort b → EndsRecords s → EndsRecords t → front ++ records a ++ s ≡ front ++ records b ++ t → (a ≡ b) × (s ≡ t)
+same_layout front a b s t short_a short_b ends_s ends_t e =
+    let whole : front ++ (records a ++ s) ≡ front ++ (records b ++ t) = sym (append_assoc front (records a) s) ∙ e ∙ append_assoc front (records b) t in
+    let behind : records a ++ s ≡ records b ++ t = sym (drop_at front (records a ++ s) (length front) refl) ∙ ap (drop (length front)) whole ∙ drop_at front (records b ++ t) (length front) refl in
+    same_records a b s t (recursion_from_All IsShort a short_a) (recursion_from_All IsShort b short_b) ends_s ends_t behind
+
+-- the last byte of a header tells the format
+pub same_digit : (format other : Format) → digit_of format ≡ digit_of other → format ≡ other
+same_digit First First e = refl
+same_digit First Second e = absurd (omega (arith, e))
+same_digit Second First e = absurd (omega (arith, e))
+same_digit Second Second e = refl
+
+-- and so bytes behind a header do
+pub one_format : (bytes : List ℕ) (format other : Format) (bodies bodies' : List (List ℕ)) (s t : List ℕ) → bytes ≡ header_in format ++ records bodies ++ s → bytes ≡ header_in other ++ records bodies' ++ t → format ≡ other
+one_format bytes format other bodies bodies' s t is is' = same_digit format other (ap (λ l. get_or l 7 0) (sym is ∙ is'))
+
+-- bytes that go on behind a header aren't foreign
+pub not_foreign : (bytes : List ℕ) (format : Format) (bodies : List (List ℕ)) (s : List ℕ) → bytes ≡ header_in format ++ records bodies ++ s → 0 < length s → IsForeign bytes → ⊥
+not_foreign bytes format bodies s is more (inl few) = omega (arith, few, more, ap length is, length-append (header_in format ++ records bodies) s)
+not_foreign bytes format bodies s is more (inr none) = none format (ap (take 8) is)
 
 pub closed_ends : (gate : ℕ) (rest : List ℕ) → gate ≢ 1 → EndsRecords (gate ∷ rest)
 closed_ends gate rest closed = (omega arith, λ body next short more e. closed (cc))
@@ -70,21 +91,40 @@ same_claim behind a b (inl few) (inr many) = absurd (omega (arith, few.0, many.0
 same_claim behind a b (inr many) (inl few) = absurd (omega (arith, few.0, many.0))
 same_claim behind a b (inr many_a) (inr many_b) = many_a.1 ∙ sym many_b.1
 
-pub one_content : (bytes : List ℕ) (a b : List (List ℕ)) → HasContent bytes a → HasContent bytes b → a ≡ b
-one_content bytes a b content other =
-    (same_layout a b (content.gate ∷ content.rest) (other.gate ∷ other.rest) content.fit other.fit (closed_ends _ _ content.closed) (closed_ends _ _ other.closed) (sym content.is ∙ other.is)).0
+pub one_content : (bytes : List ℕ) (format other : Format) (a b : List (List ℕ)) → HasContent format bytes a → HasContent other bytes b → (format ≡ other) × (a ≡ b)
+one_content bytes format other a b content content' =
+    let format_is = one_format bytes format other a b (content.gate ∷ content.rest) (content'.gate ∷ content'.rest) content.is content'.is in
+    let front = header_in other in (
+      format_is,
+      (same_layout front a b (content.gate ∷ content.rest) (content'.gate ∷ content'.rest) content.fit content'.fit (closed_ends _ _ content.closed) (closed_ends _ _ content'.closed)
+          (sym (subst (λ f. bytes ≡ header_in f ++ records a ++ content.gate ∷ content.rest) format_is content.is) ∙ content'.is)).0,
+    )
 
-pub not_damaged : (bytes : List ℕ) (bodies : List (List ℕ)) (at claimed : ℕ) → HasContent bytes bodies → IsDamaged bytes at claimed → ⊥
-not_damaged bytes bodies at claimed content damage =
-    let same = same_layout bodies damage.bodies (content.gate ∷ content.rest) (1 ∷ damage.behind) content.fit damage.fit (closed_ends _ _ content.closed) (damage_ends _ _ damage.wrong) (sym content.is ∙ damage.is) in
+pub not_damaged : (bytes : List ℕ) (format other : Format) (bodies : List (List ℕ)) (at claimed : ℕ) → HasContent format bytes bodies → IsDamaged other bytes at claimed → ⊥
+not_damaged bytes format other bodies at claimed content damage =
+    let format_is = one_format bytes format other bodies damage.bodies (content.gate ∷ content.rest) (1 ∷ damage.behind) content.is damage.is in
+    let content_is = subst (λ f. bytes ≡ header_in f ++ records bodies ++ content.gate ∷ content.rest) format_is content.is in
+    let same = same_layout (header_in other) bodies damage.bodies (content.gate ∷ content.rest) (1 ∷ damage.behind) content.fit damage.fit (closed_ends _ _ content.closed) (damage_ends _ _ damage.wrong) (sym content_is ∙ damage.is) in
     let gates = same.1 in
     content.closed cc
 
-pub one_damage : (bytes : List ℕ) (at claimed at' claimed' : ℕ) → IsDamaged bytes at claimed → IsDamaged bytes at' claimed' → (at ≡ at') × (claimed ≡ claimed')
-one_damage bytes at claimed at' claimed' damage other =
-    let same = same_layout damage.bodies other.bodies (1 ∷ damage.behind) (1 ∷ other.behind) damage.fit other.fit (damage_ends _ _ damage.wrong) (damage_ends _ _ other.wrong) (sym damage.is ∙ other.is) in
+-- behind the same bytes in front one place is damaged
+pub one_damage_behind : (front bytes : List ℕ) (at claimed at' claimed' : ℕ) → IsDamagedBehind front bytes at claimed → IsDamagedBehind front bytes at' claimed' → (at ≡ at') × (claimed ≡ claimed')
+one_damage_behind front bytes at claimed at' claimed' damage other =
+    let same = same_layout front damage.bodies other.bodies (1 ∷ damage.behind) (1 ∷ other.behind) damage.fit other.fit (damage_ends _ _ damage.wrong) (damage_ends _ _ other.wrong) (sym damage.is ∙ other.is) in
     let behind : damage.behind ≡ other.behind = ap (drop 1) same.1 in
-    (damage.place ∙ ap (λ bodies. length (header ++ records bodies)) same.0 ∙ sym other.place, same_claim other.behind claimed claimed' (subst (λ l. ClaimsTooMuch l claimed) behind damage.wrong) other.wrong)
+    (damage.place ∙ ap (λ bodies. length (front ++ records bodies)) same.0 ∙ sym other.place, same_claim other.behind claimed claimed' (subst (λ l. ClaimsTooMuch l claimed) behind damage.wrong) other.wrong)
+
+pub one_damage : (bytes : List ℕ) (format other : Format) (at claimed at' claimed' : ℕ) → IsDamaged format bytes at claimed → IsDamaged other bytes at' claimed' → (at ≡ at') × (claimed ≡ claimed')
+one_damage bytes format other at claimed at' claimed' damage damage' =
+    let format_is = one_format bytes format other damage.bodies damage'.bodies (1 ∷ damage.behind) (1 ∷ damage'.behind) damage.is damage'.is in
+    one_damage_behind (header_in other) bytes at claimed at' claimed' (subst (λ f. IsDamaged f bytes at claimed) format_is damage) damage'
+
+pub content_or_foreign : (bytes : List ℕ) (format : Format) (bodies : List (List ℕ)) → HasContent format bytes bodies → IsForeign bytes → ⊥
+content_or_foreign bytes format bodies content = not_foreign bytes format bodies (content.gate ∷ content.rest) content.is (omega arith)
+
+pub foreign_or_damaged : (bytes : List ℕ) (format : Format) (at claimed : ℕ) → IsForeign bytes → IsDamaged format bytes at claimed → ⊥
+foreign_or_damaged bytes format at claimed foreign damage = not_foreign bytes format damage.bodies (1 ∷ damage.behind) damage.is (omega arith) foreign
 
 -- where the gate that ends them stands
 pub length-records : (bodies : List (List ℕ)) → length (records bodies) ≡ sum_by (λ body. 5 + length body) bodies
@@ -94,13 +134,13 @@ length-records (x ∷ bodies) = omega (arith, length-append (1 ∷ record_of x) 
 pub span_is : (front : List ℕ) (bodies : List (List ℕ)) → length (front ++ records bodies) + 1 ≡ length front + span_of bodies
 span_is front bodies = omega (arith, length-append front (records bodies), length-records bodies)
 
-pub end_is : (bodies : List (List ℕ)) → length (header ++ records bodies) + 1 ≡ end_behind bodies
-end_is bodies = omega (arith, length-append header (records bodies), length-records bodies)
+pub end_is : (format : Format) (bodies : List (List ℕ)) → length (header_in format ++ records bodies) + 1 ≡ end_behind bodies
+end_is format bodies = omega (arith, length-append (header_in format) (records bodies), length-records bodies)
 
 -- a journal ends within its bytes
-pub end_within : (bytes : List ℕ) (bodies : List (List ℕ)) → HasContent bytes bodies → end_behind bodies ≤ length bytes
-end_within bytes bodies content =
-    omega (arith, ap length content.is, length-append (header ++ records bodies) (content.gate ∷ content.rest), end_is bodies)
+pub end_within : (format : Format) (bytes : List ℕ) (bodies : List (List ℕ)) → HasContent format bytes bodies → end_behind bodies ≤ length bytes
+end_within format bytes bodies content =
+    omega (arith, ap length content.is, length-append (header_in format ++ records bodies) (content.gate ∷ content.rest), end_is format bodies)
 
 pub behind_to : (front bytes rest : List ℕ) (bodies : List (List ℕ)) → bytes ≡ front ++ records bodies ++ rest → All IsShort bodies → 0 < length rest → get_or rest 0 0 ≢ 1
     → HasBehind front bytes bodies × (length bytes - length rest + 1 ≡ length front + span_of bodies)

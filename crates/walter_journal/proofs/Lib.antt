@@ -3,6 +3,5 @@ mod Beginning
 pub mod Gates
 pub mod Layouts
 mod Reading
-pub mod Standing
 pub mod Told
 pub mod Zeros

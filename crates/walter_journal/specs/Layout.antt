@@ -5,10 +5,14 @@ use Rattle.byteorder.specs.Endian.{big_bytes, big_number}
 use Rattle.walter_base.specs.declared.format.Format.{Format}
 use Rattle.walter_base.specs.declared.format.Format.TheVariants.{First, Second}
 
+-- "1" or "2", which ends a header
+abbrev pub digit_of : Format → ℕ
+digit_of First = 0x31
+digit_of Second = 0x32
+
 -- "WALTERJ1", or "WALTERJ2" where the records are of the second format
 abbrev pub header_in : Format → List ℕ
-header_in First = 0x57 ∷ 0x41 ∷ 0x4C ∷ 0x54 ∷ 0x45 ∷ 0x52 ∷ 0x4A ∷ 0x31 ∷ []
-header_in Second = 0x57 ∷ 0x41 ∷ 0x4C ∷ 0x54 ∷ 0x45 ∷ 0x52 ∷ 0x4A ∷ 0x32 ∷ []
+header_in format = 0x57 ∷ 0x41 ∷ 0x4C ∷ 0x54 ∷ 0x45 ∷ 0x52 ∷ 0x4A ∷ digit_of format ∷ []
 
 -- a body behind its length in four bytes, the highest first
 abbrev pub record_of : List ℕ → List ℕ

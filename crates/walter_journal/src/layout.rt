@@ -1,17 +1,18 @@
 //! How the bodies of a journal stand in its bytes: each behind an open gate, and a closed one behind the
 //! last.
-ghost use Rattle.std.specs.Prelude.{◌≡◌, ◌<◌, ◌++◌, ◌+◌, ℕ, List, length, take, IfOk, IfErr};
+ghost use Rattle.std.specs.Prelude.{◌≡◌, ◌<◌, ◌++◌, ◌+◌, ℕ, List, length, take, IfSome, IfNone, IfOk, IfErr};
 ghost use Rattle.walter_journal.specs.Faults.{IsWrong, IsWrongBehind};
-ghost use Rattle.walter_journal.specs.Layout.{record_of, end_behind, span_of, HasBehind, IsShort, ClaimsTooMuch, HasContent, IsForeign, IsDamaged};
+ghost use Rattle.walter_journal.specs.Layout.{header_in, record_of, end_behind, span_of, HasBehind, IsShort, ClaimsTooMuch, HasContent, IsForeign, IsDamaged};
 
 use crate::bodies::Bodies;
 use crate::fault::JournalFault;
 use byteorder::{BigEndian, ByteOrder};
 use std::alloc::Global;
+use walter_base::Format;
 
 /// What a journal begins with, in front of its first gate, whose records are of this format.
-pub(crate) fn header_in(format: Format) -> [u8; 8]
-    ensures { result.items ≡ header_in format }
+pub(crate) fn header_of(format: Format) -> [u8; 8]
+    ensures { result ≡ header_in format }
 {
     match format {
         Format::First => *b"WALTERJ1",
@@ -70,8 +71,16 @@ fn format_of(bytes: &[u8]) -> Option<Format>
     ensures some { IfSome result (λ format. (take 8 bytes.now ≡ header_in format) × (8 < length bytes.now)) }
     ensures none { IfNone result (IsForeign bytes.now) }
 {
-    let formats = [Format::First, Format::Second];
-    ..
+    if bytes.len() <= 8 {
+        return None;
+    }
+    if bytes.starts_with(&header_of(Format::First)) {
+        return Some(Format::First);
+    }
+    if bytes.starts_with(&header_of(Format::Second)) {
+        return Some(Format::Second);
+    }
+    None
 }
 
 /// The bodies that the bytes are a journal of, the place behind the gate that ends them, and the format that the header

@@ -11,11 +11,12 @@ use crate::fault::JournalFault;
 use crate::journal::Journal;
 use crate::layout::bodies_of;
 use std::alloc::Global;
+use walter_base::Format;
 use walter_disk::{Disk, write_and_sync};
 
 // A header and a closed gate.
 fn empty_in(format: Format) -> [u8; 9]
-    ensures { result.items ≡ header_in format ++ 0 ∷ [] }
+    ensures { result ≡ header_in format ++ 0 ∷ [] }
 {
     match format {
         Format::First => *b"WALTERJ1\0",
