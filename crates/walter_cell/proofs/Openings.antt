@@ -3,6 +3,7 @@ use Rattle.std.proofs.Common.{◌≡◌, ◌<◌, ◌≤◌, ℕ, List, [], ◌�
 use Rattle.std.specs.Prelude.{All, IfSome, is_some, true, reverse, count_by}
 use Rattle.std.proofs.lemmas.List.Elements.{All-nil, All-push}
 use Rattle.walter_base.specs.declared.catalog.Catalog.{Catalog}
+use Rattle.walter_base.specs.declared.format.Format.{Format}
 use Rattle.walter_base.specs.declared.names.SiteId.{SiteId}
 use Rattle.walter_checkpoint.specs.Areas.{Shape, shape_by}
 use Rattle.walter_checkpoint.specs.Loads.{IsAreas}
@@ -27,12 +28,12 @@ one_of_all : {X : Type 0} (P : X → Type 0) (x : X) → P x → All P (x ∷ []
 one_of_all P x holds = All-push P [] x (All-nil P) holds
 
 -- there is place for the first epoch
-pub has_place : (areas capacity sites : ℕ) → IsAreas areas capacity → 19 ≤ capacity
-    → 10 ≤ left_behind (layout_for areas capacity sites) unmade
-has_place areas capacity sites (inl one) most =
-    subst (λ (a : ℕ). 10 ≤ left_behind (layout_for a capacity sites) unmade) (sym one) (omega (arith, most))
-has_place areas capacity sites (inr (two, least)) most =
-    subst (λ (a : ℕ). 10 ≤ left_behind (layout_for a capacity sites) unmade) (sym two) (omega (arith, least))
+pub has_place : (areas capacity sites : ℕ) (header : Format) → IsAreas areas capacity → 19 ≤ capacity
+    → 10 ≤ left_behind (layout_for areas capacity sites header) unmade
+has_place areas capacity sites header (inl one) most =
+    subst (λ (a : ℕ). 10 ≤ left_behind (layout_for a capacity sites header) unmade) (sym one) (omega (arith, most))
+has_place areas capacity sites header (inr (two, least)) most =
+    subst (λ (a : ℕ). 10 ≤ left_behind (layout_for a capacity sites header) unmade) (sym two) (omega (arith, least))
 
 opening_right : (catalog : Catalog) (layout : Layout) (i : SiteId) → 10 ≤ left_behind layout unmade
     → IsRightTrail catalog layout i (opening ∷ [])
@@ -109,12 +110,12 @@ module _ {D : Type 0} {g : Ghosts D} (catalog : Catalog) (layout : Layout) (i : 
         (λ disk. let none = ap (λ (es : List Entry). count_by (λ (e : Entry). is_faulty e.came.outcome) es) is in omega (arith, none));
   }
 
--- by equal numbers
-pub shape_same : (a b m n : ℕ) → a ≡ b → m ≡ n → shape_by a m ≡ shape_by b n
-shape_same a b m n x y = λ j. shape_by (x j) (y j)
+-- by equal numbers and headers
+pub shape_same : (a b m n : ℕ) (h k : Format) → a ≡ b → m ≡ n → h ≡ k → shape_by a m h ≡ shape_by b n k
+shape_same a b m n h k x y z = λ j. shape_by (x j) (y j) (z j)
 
-pub layout_same : (areas a b m n : ℕ) → a ≡ b → m ≡ n → layout_for areas a m ≡ layout_for areas b n
-layout_same areas a b m n x y = λ j. layout_for areas (x j) (y j)
+pub layout_same : (areas a b m n : ℕ) (h k : Format) → a ≡ b → m ≡ n → h ≡ k → layout_for areas a m h ≡ layout_for areas b n k
+layout_same areas a b m n h k x y z = λ j. layout_for areas (x j) (y j) (z j)
 
 -- whether the disk tells what it holds, as the one did that the site was given
 pub told_here : {D : Type 0} (g : Ghosts D) (old new : Option D) (disk : D) → old ≡ Some disk → is_some new ≡ true

@@ -1,7 +1,9 @@
 -- What the first restart of a site comes to.
-use Rattle.std.specs.Prelude.{◌≡◌, ℕ, List, [], ◌∷◌, Option, Some, true, false, Result, Ok, Err, IfSome, is_some}
+use Rattle.std.specs.Prelude.{◌≡◌, ◌≤◌, ℕ, List, [], ◌∷◌, Option, Some, true, false, Result, Ok, Err, IfSome, is_some}
 use Rattle.walter_base.specs.declared.catalog.Catalog.{Catalog}
+use Rattle.walter_base.specs.declared.format.Format.{Format}
 use Rattle.walter_base.specs.declared.names.SiteId.{SiteId}
+use Rattle.walter_base.specs.Sizes.{most_in}
 use Rattle.walter_disk.specs.declared.disk.Disk.{Ghosts}
 use Rattle.walter_engine.specs.declared.answers.BeginFault.{BeginFault}
 use Rattle.walter_checkpoint.specs.Areas.{Shape}
@@ -20,7 +22,8 @@ begun_by (Err back) = Err back.1
 
 -- a layout that a journal of so many bytes can have, at a site among so many
 abbrev pub IsOfCapacity : (capacity sites : ℕ) → Layout → Type 0
-IsOfCapacity capacity sites layout = (areas : ℕ) × (layout ≡ layout_for areas capacity sites)
+IsOfCapacity capacity sites layout =
+    (areas : ℕ) × (header : Format) × (sites ≤ most_in header) × (layout ≡ layout_for areas capacity sites header)
 
 -- of the disk behind a building P holds, under the site or beside the fault
 abbrev pub OfBuilt : {N D : Type 0} → (N → Option D) → Result N (D × BeginFault) → (D → Type 0) → Type 0
@@ -40,14 +43,14 @@ module _ {D : Type 0} (g : Ghosts D) where
         IsFaultOfBegin (begun_by result) (g.known disk).faults (g.known now).faults)
     pub arms : OfBuilt disk_of result (λ now. (g.known now).arms ≡ (g.known disk).arms)
 
-  -- a site over this disk, up in its first epoch: its trail is the opening. Its journal is laid out in so many areas, where
-  -- the disk has no bytes, and else as it was.
-  pub record HasOpened (catalog : Catalog) (capacity areas : ℕ) (i : SiteId) (disk : D) (outs : List Sending)
+  -- a site over this disk, up in its first epoch: its trail is the opening. Its journal is laid out in so many areas and has
+  -- such a header, where the disk has no bytes, and else is as it was.
+  pub record HasOpened (catalog : Catalog) (capacity areas : ℕ) (header : Format) (i : SiteId) (disk : D) (outs : List Sending)
       (node : NodeValue D) : Type 0 where
     pub catalog_is : node.catalog ≡ catalog
     pub sized : IsOfCapacity capacity catalog.sites node.layout
     pub laid : (bytes : List ℕ) → HasOnly g bytes disk
-        → IsLaidOver bytes (layout_for areas capacity catalog.sites) node.layout
+        → IsLaidOver bytes (layout_for areas capacity catalog.sites header) node.layout
     pub site : node.site ≡ i
     pub trail : node.trail ≡ opening ∷ []
     pub outs_are : node.outs ≡ outs
@@ -55,7 +58,7 @@ module _ {D : Type 0} (g : Ghosts D) where
     pub told : is_told g node.disk ≡ is_some (g.known disk).reads
 
 -- a site that is down over this disk, to which nothing has happened
-pub record IsNewEngine {D : Type 0} {g : Ghosts D} (catalog : Catalog) (capacity areas : ℕ) (i : SiteId) (disk : D)
+pub record IsNewEngine {D : Type 0} {g : Ghosts D} (catalog : Catalog) (capacity areas : ℕ) (header : Format) (i : SiteId) (disk : D)
     (engine : Engine D g) : Type 0 where
   pub disk_is : disk_in engine ≡ Some disk
   pub down : is_up engine ≡ false
@@ -64,3 +67,4 @@ pub record IsNewEngine {D : Type 0} {g : Ghosts D} (catalog : Catalog) (capacity
   pub site : site_in engine ≡ i
   pub capacity_is : capacity_in engine ≡ capacity
   pub areas_are : engine.areas ≡ areas
+  pub header_is : engine.format ≡ header

@@ -2,6 +2,7 @@
 use Rattle.std.specs.Prelude.{◌≡◌, ◌≢◌, ◌≤◌, ◌+◌, ◌⊎◌, ℕ, true, Option, Some, None, All}
 use Rattle.std.specs.Prelude.{List, length, reverse}
 use Rattle.walter_base.specs.declared.catalog.Catalog.{Catalog}
+use Rattle.walter_base.specs.declared.format.Format.{Format}
 use Rattle.walter_base.specs.declared.names.SiteId.{SiteId}
 use Rattle.walter_base.specs.declared.packet.Packet.{Packet}
 use Rattle.walter_conn.specs.Frames.{Call}
@@ -75,9 +76,9 @@ module _ {D : Type 0} where
           → MayDrop old.node.catalog old.node.site (met_to old.node.outs) old.node.trail new.node.trail
 
   -- a site began over this disk with these ends of its lanes and these connections
-  pub record HasBegun (g : Ghosts D) (catalog : Catalog) (capacity areas : ℕ) (i : SiteId) (disk : D)
+  pub record HasBegun (g : Ghosts D) (catalog : Catalog) (capacity areas : ℕ) (header : Format) (i : SiteId) (disk : D)
       (outs : List Sending) (ins : List Receiving) (lines : List (Option LineValue)) (cell : CellValue D) : Type 0 where
-    pub node : HasOpened g catalog capacity areas i disk outs cell.node
+    pub node : HasOpened g catalog capacity areas header i disk outs cell.node
     pub ins_are : cell.ins ≡ ins
     pub lines_are : cell.lines ≡ lines
 

@@ -2,7 +2,6 @@
 ghost use Rattle.std.specs.Prelude.{◌≡◌, ◌≢◌, ◌<◌, ◌≤◌, ◌++◌, ◌∷◌, ◌+◌, ◌↔◌, [], ℕ, List, Option, true};
 ghost use Rattle.std.specs.Prelude.{is_ok, IsOk, if◌then◌else◌, length, map, max, option_map, Some, OnErr, OnOk, IfOk, IsTrue};
 ghost use mathlib.Core.List.{IsPrefix};
-ghost use Rattle.walter_base.specs.declared.format.Format.TheVariants.{First};
 ghost use Rattle.walter_base.specs.Sizes.{most_in};
 ghost use Rattle.walter_rules.specs.declared.event.Event.TheVariants as event;
 ghost use Rattle.walter_rules.specs.declared.event.Input.TheVariants as input;
@@ -25,7 +24,7 @@ use crate::polling::poll_all;
 use crate::remains::Remains;
 use std::alloc::Global;
 use std::marker::Model;
-use walter_base::{Catalog, Mem, SiteId};
+use walter_base::{Catalog, Format, Mem, SiteId};
 use walter_conn::{BrokenConn, Next};
 use walter_disk::Disk;
 use walter_engine::BeginFault;
@@ -76,13 +75,14 @@ impl<D: Disk + Drop, S: Source + Drop, K: Sink + Drop> Cell<D, S, K> {
         site: SiteId,
         capacity: u64,
         areas: u8,
+        format: Format,
         room: u32,
         outs: Vec<Outbound>,
         ins: Vec<Inbound>,
         lines: Vec<Option<Line<S, K>>>,
     ) -> Result<Cell<D, S, K>, (D, BeginFault)>
         requires here { site.0 < catalog.now.sites }
-        requires most { catalog.now.sites ≤ most_in First }
+        requires most { catalog.now.sites ≤ most_in format }
         requires fewer { catalog.now.tolerated < catalog.now.sites }
         requires place { 19 ≤ capacity }
         requires areas { IsAreas areas capacity }
@@ -90,12 +90,12 @@ impl<D: Disk + Drop, S: Source + Drop, K: Sink + Drop> Cell<D, S, K> {
         requires ins { length ins.items ≡ catalog.now.sites }
         requires empty { (k : ℕ) → k < catalog.now.sites → put_to outs.items k ≡ [] }
         ensures opens { IfOk result
-            (HasBegun D.Disk catalog.now capacity areas site disk outs.items ins.items lines.items) }
-        ensures begins { Begins D.Disk (λ cell. cell.node.disk) (shape_by capacity catalog.now.sites) areas
+            (HasBegun D.Disk catalog.now capacity areas format site disk outs.items ins.items lines.items) }
+        ensures begins { Begins D.Disk (λ cell. cell.node.disk) (shape_by capacity catalog.now.sites format) areas
             disk result }
         ensures room { IfOk result (λ cell. room ≤ places_in cell.node) }
     {
-        let node = Node::begin(alloc, disk, catalog, site, capacity, areas, room, outs)?;
+        let node = Node::begin(alloc, disk, catalog, site, capacity, areas, format, room, outs)?;
         Ok(Cell { node, ins, lines })
     }
 
@@ -255,6 +255,17 @@ impl<D: Disk + Drop, S: Source + Drop, K: Sink + Drop> Cell<D, S, K> {
         ensures roomy { 0 < self.old.node.room → IsOk result }
     {
         self.act(Event::Given(Input::Tick))
+    }
+
+    /// The journal goes on in the second format, if it is in the first.
+    pub fn upgrade(&mut self) -> Mem<Acted>
+        ensures proceeds { Proceeds D.Disk self.old self.new }
+        ensures acts { IfOk result (Acts (event.Given input.Upgrade) (clock_in self.old.node)
+            self.old.node.trail self.new.node.trail) }
+        ensures kept { OnErr result (HasSameTrail self.old self.new) }
+        ensures roomy { 0 < self.old.node.room → IsOk result }
+    {
+        self.act(Event::Given(Input::Upgrade))
     }
 
     /// The site loses its memory.

@@ -2,7 +2,6 @@
 ghost use Rattle.std.specs.Prelude.{◌≡◌, ◌<◌, ◌≤◌, true, ◌-◌, ◌++◌, ◌+◌, ◌≢◌, ◌∷◌, [], ℕ, max, slice_get, length};
 ghost use Rattle.std.specs.Prelude.{vec_capacity, IsOk, option_map, Some, OnErr, OnOk, IfOk, IfErr, IfSome, IfNone};
 ghost use mathlib.Core.List.{IsPrefix};
-ghost use Rattle.walter_base.specs.declared.format.Format.TheVariants.{First};
 ghost use Rattle.walter_base.specs.Sizes.{most_in};
 ghost use Rattle.walter_engine.specs.declared.answers.BeginFault.TheVariants as unbegun;
 ghost use Rattle.walter_machine.specs.States.{IsSizedEvent};
@@ -15,7 +14,7 @@ ghost use Rattle.walter_rules.specs.Trails.{opening};
 
 use std::alloc::Global;
 use std::marker::Model;
-use walter_base::{Catalog, Mem, Record, RecordPlace, SiteId};
+use walter_base::{Catalog, Format, Mem, Record, RecordPlace, SiteId};
 use walter_disk::Disk;
 use walter_engine::{BeginFault, Effect, Engine};
 use walter_lane::{Inbound, Outbound, compare, meet};
@@ -85,24 +84,25 @@ impl<D: Disk + Drop> Node<D> {
         site: SiteId,
         capacity: u64,
         areas: u8,
+        format: Format,
         room: u32,
         outs: Vec<Outbound>,
     ) -> Result<Node<D>, (D, BeginFault)>
         requires here { site.0 < catalog.now.sites }
-        requires most { catalog.now.sites ≤ most_in First }
+        requires most { catalog.now.sites ≤ most_in format }
         requires fewer { catalog.now.tolerated < catalog.now.sites }
         requires place { 19 ≤ capacity }
         requires areas { IsAreas areas capacity }
         requires lanes { length outs.items ≡ catalog.now.sites }
         requires empty { (k : ℕ) → k < catalog.now.sites → put_to outs.items k ≡ [] }
-        ensures opens { IfOk result (HasOpened D.Disk catalog.now capacity areas site disk outs.items) }
-        ensures begins { Begins D.Disk (λ node. node.disk) (shape_by capacity catalog.now.sites) areas disk result }
+        ensures opens { IfOk result (HasOpened D.Disk catalog.now capacity areas format site disk outs.items) }
+        ensures begins { Begins D.Disk (λ node. node.disk) (shape_by capacity catalog.now.sites format) areas disk result }
         ensures room { IfOk result (λ node. room ≤ places_in node) }
     {
         let Ok((mut entries, place)) = open(alloc, room) else {
             return Err((disk, BeginFault::NoMemory));
         };
-        let mut engine = new_engine(alloc, disk, catalog, site, capacity, areas)?;
+        let mut engine = new_engine(alloc, disk, catalog, site, capacity, areas, format)?;
         if let Err(why) = engine.begin() {
             return Err((Box::into_inner(engine).into_disk(), why));
         }
@@ -244,15 +244,16 @@ fn new_engine<D: Disk + Drop>(
     site: SiteId,
     capacity: u64,
     areas: u8,
+    format: Format,
 ) -> Result<Box<Engine<D>>, (D, BeginFault)>
     requires here { site.0 < catalog.now.sites }
-    requires most { catalog.now.sites ≤ most_in First }
+    requires most { catalog.now.sites ≤ most_in format }
     requires fewer { catalog.now.tolerated < catalog.now.sites }
     requires areas { IsAreas areas capacity }
-    ensures ok { IfOk result (λ engine. IsNewEngine catalog.now capacity areas site disk engine.value) }
+    ensures ok { IfOk result (λ engine. IsNewEngine catalog.now capacity areas format site disk engine.value) }
     ensures back { IfErr result (λ back. (back.0 ≡ disk) × (back.1 ≡ unbegun.NoMemory)) }
 {
-    let engine = match Engine::new(alloc, disk, catalog, site, capacity, areas) {
+    let engine = match Engine::new(alloc, disk, catalog, site, capacity, areas, format) {
         Ok(engine) => engine,
         Err(disk) => return Err((disk, BeginFault::NoMemory)),
     };

@@ -6,9 +6,11 @@ use Rattle.std.proofs.lemmas.Bool.{cases_lt, eqb-true, eq-eqb}
 use Rattle.std.proofs.lemmas.List.{get_or-replicate, length-replicate}
 use Rattle.std.proofs.lemmas.List.Elements.{All-map, All-same}
 use Rattle.std.proofs.lemmas.Option.{slice_get_within, slice_get-map}
-use Rattle.walter_base.specs.declared.format.Format.TheVariants.{First}
+use Rattle.walter_base.specs.declared.format.Format.{Format}
+use Rattle.walter_base.specs.declared.format.Format.TheVariants.{First, Second}
 use Rattle.walter_base.specs.declared.names.SiteId.{SiteId}
 use Rattle.walter_base.specs.Sizes.{most_in}
+use Rattle.walter_base.specs.Vectors.{most_sites}
 use Rattle.walter_cell.specs.Cells.{CellValue}
 use Rattle.walter_cell.specs.Lines.{LineValue, IsLine, is_here, is_there}
 use Rattle.walter_cell.specs.Nodes.{arms_under}
@@ -32,6 +34,11 @@ use Rattle.walter_cluster.specs.Seats.{lists_in, list_of, HavePlaces, AreSeated,
 use Rattle.walter_cluster.proofs.Changes.{field_at, field_past}
 use Rattle.walter_cluster.proofs.Opened.{none_had}
 use Rattle.walter_cluster.proofs.Places.{at_place, all_same}
+
+-- no format has places for more sites than there may be
+few_enough : (format : Format) {n : ℕ} → n ≤ most_in format → n ≤ most_sites
+few_enough First few = omega (arith, few)
+few_enough Second few = few
 
 -- what was made for so many sites and these clients is what a scenario asks for
 pub prepared_for : {D S K : Type 0} (t : Scenario) (conns : List LineValue) (parts : Parts D S K) (sites : ℕ) (clients : List Client) → sites ≡ t.catalog.sites → clients ≡ t.clients
@@ -204,9 +211,9 @@ module _ {D : Type 0} (g : Ghosts D) (t : Scenario) (disks : List D) (rows : Lis
             here = λ client. ap (λ (ls : List (Option LineValue)). is_here ls client) one.lines_are ∙ here_is_home t conns lists conns_long seated homes alone homes_are i client;
           }
 
-      pub bench_built : t.catalog.sites ≤ most_in First → All (λ (client : Client). client.site.0 < t.catalog.sites) t.clients → IsBench (record { cells = cells; homes = homes })
+      pub bench_built : t.catalog.sites ≤ most_in t.format → All (λ (client : Client). client.site.0 < t.catalog.sites) t.clients → IsBench (record { cells = cells; homes = homes })
       bench_built few within = record {
-        few = omega (arith, few, begun.long);
+        few = omega (arith, few_enough t.format few, begun.long);
         cells = cell_at;
         lanes = lanes_built;
         within = subst (λ (n : ℕ). All (λ (home : SiteId). home.0 < n) homes) (sym begun.long)

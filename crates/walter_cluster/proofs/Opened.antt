@@ -56,7 +56,7 @@ module _ {D : Type 0} where
 module _ {D : Type 0} (g : Ghosts D) (t : Scenario) where
   -- a cell that began
   pub cell_begins : (i : ℕ) (disk : D) (row : List Sending) (column : List Receiving) (list : List (Option LineValue)) (c : CellValue D)
-      → HasBegun g t.catalog t.capacity t.areas (site_at i) disk row column list c
+      → HasBegun g t.catalog t.capacity t.areas t.format (site_at i) disk row column list c
       → Begins g {N = CellValue D} (λ (x : CellValue D). x.node.disk) (shape_of t) t.areas disk (Ok c)
       → t.room ≤ places_in c.node
       → HasBegunAt g t i disk row column list c

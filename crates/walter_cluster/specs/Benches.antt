@@ -1,10 +1,9 @@
 -- What contracts see of the cells of all sites, and what holds of them between two events.
 use Rattle.std.specs.Prelude.{◌≡◌, ◌<◌, ◌≤◌, ℕ, Bool, true, false, List, [], length, map, slice_get, slice_index_or, Vec, vec_capacity, Option, Some, None, All}
 use Rattle.std.specs.declared.alloc.Global.{Global}
-use Rattle.walter_base.specs.declared.format.Format.TheVariants.{First}
 use Rattle.walter_base.specs.declared.names.SiteId.{SiteId}
 use Rattle.walter_base.specs.Names.{same_site}
-use Rattle.walter_base.specs.Sizes.{most_in}
+use Rattle.walter_base.specs.Vectors.{most_sites}
 use Rattle.walter_cell.specs.Builds.{IsOfCapacity}
 use Rattle.walter_cell.specs.Cells.{CellValue}
 use Rattle.walter_cell.specs.Cells as cell
@@ -37,13 +36,13 @@ pub record BenchValue (D : Type 0) : Type 0 where
   pub cells : List (CellValue D)
   pub homes : List SiteId
 
--- by what the bytes of a site's disk are read, beside themselves
+-- how a new book lies on the disk of a site
 abbrev pub shape_of : Scenario → Shape
-shape_of t = shape_by t.capacity t.catalog.sites
+shape_of t = shape_by t.capacity t.catalog.sites t.format
 
 -- how the journal of a site is laid out that begins over a disk of no bytes
 abbrev pub layout_of : Scenario → Layout
-layout_of t = layout_for t.areas t.capacity t.catalog.sites
+layout_of t = layout_for t.areas t.capacity t.catalog.sites t.format
 
 -- so the journal of a site is laid out that begins over a disk with these bytes: over none as the scenario says, else as
 -- they are
@@ -89,7 +88,7 @@ module _ {D : Type 0} where
   -- the cells are those of sites 0, 1 and so on; between each two sites lies one lane, which has both its ends there; and
   -- each client is at home at one of the sites
   pub record IsBench (bench : BenchValue D) : Type 0 where
-    pub few : length bench.cells ≤ most_in First
+    pub few : length bench.cells ≤ most_sites
     pub cells : AtEach bench.cells (λ i c. IsCellAt (length bench.cells) bench.homes i c)
     pub lanes : (to from : ℕ) → to < length bench.cells → from < length bench.cells
         → ring_to (outs_at bench.cells from) to ≡ ring_from (ins_at bench.cells to) from

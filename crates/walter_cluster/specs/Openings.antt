@@ -45,7 +45,7 @@ module _ {D : Type 0} (g : Ghosts D) where
   -- of the disks, and none failed.
   pub record HasBegunAt (t : Scenario) (i : ℕ) (disk : D) (row : List Sending) (column : List Receiving)
       (list : List (Option LineValue)) (c : CellValue D) : Type 0 where
-    pub begun : HasBegun g t.catalog t.capacity t.areas (site_at i) disk row column list c
+    pub begun : HasBegun g t.catalog t.capacity t.areas t.format (site_at i) disk row column list c
     pub had_none : (bytes : List ℕ) → HasOnly g bytes disk → HasNoRecord (shape_of t) bytes
     pub now : D
     pub now_is : c.node.disk ≡ Some now

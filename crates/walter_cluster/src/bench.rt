@@ -147,6 +147,20 @@ impl<D: Disk + Drop, S: Source + Drop, K: Sink + Drop> Bench<D, S, K> {
         self.act(site, Event::Given(Input::Tick))
     }
 
+    /// The journal of a site goes on in the second format, if it is in the first.
+    pub fn upgrade(&mut self, site: SiteId) -> Mem<Acted>
+        requires { site.0 < length self.old.cells }
+        ensures keeps { Keeps D.Disk self.old self.new }
+        ensures acts { IfOk result (ActsAt site (event.Given input.Upgrade) (moment_of D.Disk self.old.cells)
+            (moment_of D.Disk self.new.cells)) }
+        ensures drops { Drops D.Disk site self.old self.new }
+        ensures kept { OnErr result (trails_of self.new.cells ≡ trails_of self.old.cells) }
+        ensures arms { KeepsArms (moment_of D.Disk self.old.cells) (moment_of D.Disk self.new.cells) }
+        ensures roomy { (c : CellValue D) → slice_get self.old.cells site.0 ≡ Some c → 0 < c.node.room → IsOk result }
+    {
+        self.act(site, Event::Given(Input::Upgrade))
+    }
+
     /// A site loses its memory.
     pub fn stop(&mut self, site: SiteId) -> Mem<Acted>
         requires { site.0 < length self.old.cells }

@@ -1,6 +1,5 @@
 //! Builds the bench of a scenario over disks.
 ghost use Rattle.std.specs.Prelude.{◌≡◌, ◌<◌, ◌≤◌, ◌+◌, ◌∷◌, ◌++◌, ℕ, List, [], length, map, slice_get, vec_capacity, Option, Some, IsSome, IfOk, IfErr, OnOk, All};
-ghost use Rattle.walter_base.specs.declared.format.Format.TheVariants.{First};
 ghost use Rattle.walter_base.specs.Sizes.{most_in};
 ghost use Rattle.walter_scenario.specs.declared.scenario.Client.{Client};
 ghost use Rattle.walter_cell.specs.Lines.{LineValue};
@@ -62,7 +61,7 @@ pub fn build<D: Disk + Drop, S: Source + Drop, K: Sink + Drop>(
     conns: Vec<Line<S, K>>,
 ) -> Result<Bench<D, S, K>, Unbuilt<D>>
     requires some { 0 < scenario.now.catalog.sites }
-    requires few { scenario.now.catalog.sites ≤ most_in First }
+    requires few { scenario.now.catalog.sites ≤ most_in scenario.now.format }
     requires fewer { scenario.now.catalog.tolerated < scenario.now.catalog.sites }
     requires place { 19 ≤ scenario.now.capacity }
     requires areas { IsAreas scenario.now.areas scenario.now.capacity }
@@ -150,7 +149,7 @@ fn begin_all<D: Disk + Drop, S: Source + Drop, K: Sink + Drop>(
     mut disks: Vec<D>,
     parts: Parts<D, S, K>,
 ) -> Result<Bench<D, S, K>, Unbuilt<D>>
-    requires few { scenario.now.catalog.sites ≤ most_in First }
+    requires few { scenario.now.catalog.sites ≤ most_in scenario.now.format }
     requires fewer { scenario.now.catalog.tolerated < scenario.now.catalog.sites }
     requires place { 19 ≤ scenario.now.capacity }
     requires areas { IsAreas scenario.now.areas scenario.now.capacity }
@@ -188,6 +187,7 @@ fn begin_all<D: Disk + Drop, S: Source + Drop, K: Sink + Drop>(
             site,
             scenario.capacity,
             scenario.areas,
+            scenario.format,
             scenario.room,
             outs,
             ins,

@@ -35,6 +35,14 @@ pub struct Cluster<N: Name, D: Disk, S: Source + Drop, K: Sink + Drop> {
     site_5: Locked<N, D, S, K, 5>,
     site_6: Locked<N, D, S, K, 6>,
     site_7: Locked<N, D, S, K, 7>,
+    site_8: Locked<N, D, S, K, 8>,
+    site_9: Locked<N, D, S, K, 9>,
+    site_10: Locked<N, D, S, K, 10>,
+    site_11: Locked<N, D, S, K, 11>,
+    site_12: Locked<N, D, S, K, 12>,
+    site_13: Locked<N, D, S, K, 13>,
+    site_14: Locked<N, D, S, K, 14>,
+    site_15: Locked<N, D, S, K, 15>,
     room: Mutex<Room<N, D, S, K>>,
 }
 
@@ -56,7 +64,15 @@ impl<N: Name, D: Disk, S: Source + Drop, K: Sink + Drop> Model for Cluster<N, D,
         × (is_some c.site_4 ≡ nat_lt 4 (length N.origins))
         × (is_some c.site_5 ≡ nat_lt 5 (length N.origins))
         × (is_some c.site_6 ≡ nat_lt 6 (length N.origins))
-        × (is_some c.site_7 ≡ nat_lt 7 (length N.origins)) };
+        × (is_some c.site_7 ≡ nat_lt 7 (length N.origins))
+        × (is_some c.site_8 ≡ nat_lt 8 (length N.origins))
+        × (is_some c.site_9 ≡ nat_lt 9 (length N.origins))
+        × (is_some c.site_10 ≡ nat_lt 10 (length N.origins))
+        × (is_some c.site_11 ≡ nat_lt 11 (length N.origins))
+        × (is_some c.site_12 ≡ nat_lt 12 (length N.origins))
+        × (is_some c.site_13 ≡ nat_lt 13 (length N.origins))
+        × (is_some c.site_14 ≡ nat_lt 14 (length N.origins))
+        × (is_some c.site_15 ≡ nat_lt 15 (length N.origins)) };
 }
 
 // What a bench has besides, which waits for the cells to come back. It lies behind a lock, since not all of it may be
@@ -198,6 +214,14 @@ impl<N: Name, D: Disk + Drop, S: Source + Drop, K: Sink + Drop> Cluster<N, D, S,
             remains,
         } = bench;
         let mut pumps = pumps;
+        let site_15 = lock_last::<N, D, S, K, 15>(&mut cells, &mut pumps);
+        let site_14 = lock_last::<N, D, S, K, 14>(&mut cells, &mut pumps);
+        let site_13 = lock_last::<N, D, S, K, 13>(&mut cells, &mut pumps);
+        let site_12 = lock_last::<N, D, S, K, 12>(&mut cells, &mut pumps);
+        let site_11 = lock_last::<N, D, S, K, 11>(&mut cells, &mut pumps);
+        let site_10 = lock_last::<N, D, S, K, 10>(&mut cells, &mut pumps);
+        let site_9 = lock_last::<N, D, S, K, 9>(&mut cells, &mut pumps);
+        let site_8 = lock_last::<N, D, S, K, 8>(&mut cells, &mut pumps);
         let site_7 = lock_last::<N, D, S, K, 7>(&mut cells, &mut pumps);
         let site_6 = lock_last::<N, D, S, K, 6>(&mut cells, &mut pumps);
         let site_5 = lock_last::<N, D, S, K, 5>(&mut cells, &mut pumps);
@@ -216,6 +240,14 @@ impl<N: Name, D: Disk + Drop, S: Source + Drop, K: Sink + Drop> Cluster<N, D, S,
             site_5,
             site_6,
             site_7,
+            site_8,
+            site_9,
+            site_10,
+            site_11,
+            site_12,
+            site_13,
+            site_14,
+            site_15,
             room: Mutex::new(Room::new(cells, pumps, trails, disks, remains)),
         }
     }
@@ -237,6 +269,14 @@ impl<N: Name, D: Disk + Drop, S: Source + Drop, K: Sink + Drop> Cluster<N, D, S,
             site_5,
             site_6,
             site_7,
+            site_8,
+            site_9,
+            site_10,
+            site_11,
+            site_12,
+            site_13,
+            site_14,
+            site_15,
             room,
         } = self;
         let (mut cells, mut pumps, trails, disks, remains) = room.into_inner().into_lists();
@@ -248,6 +288,14 @@ impl<N: Name, D: Disk + Drop, S: Source + Drop, K: Sink + Drop> Cluster<N, D, S,
         unlock_next::<N, D, S, K, 5>(site_5, &mut cells, &mut pumps);
         unlock_next::<N, D, S, K, 6>(site_6, &mut cells, &mut pumps);
         unlock_next::<N, D, S, K, 7>(site_7, &mut cells, &mut pumps);
+        unlock_next::<N, D, S, K, 8>(site_8, &mut cells, &mut pumps);
+        unlock_next::<N, D, S, K, 9>(site_9, &mut cells, &mut pumps);
+        unlock_next::<N, D, S, K, 10>(site_10, &mut cells, &mut pumps);
+        unlock_next::<N, D, S, K, 11>(site_11, &mut cells, &mut pumps);
+        unlock_next::<N, D, S, K, 12>(site_12, &mut cells, &mut pumps);
+        unlock_next::<N, D, S, K, 13>(site_13, &mut cells, &mut pumps);
+        unlock_next::<N, D, S, K, 14>(site_14, &mut cells, &mut pumps);
+        unlock_next::<N, D, S, K, 15>(site_15, &mut cells, &mut pumps);
         let bench = Bench {
             cells,
             homes,
@@ -271,6 +319,14 @@ impl<N: Name, D: Disk + Drop, S: Source + Drop, K: Sink + Drop> Cluster<N, D, S,
             5 => turn_at(rt, alloc, &self.site_5, client),
             6 => turn_at(rt, alloc, &self.site_6, client),
             7 => turn_at(rt, alloc, &self.site_7, client),
+            8 => turn_at(rt, alloc, &self.site_8, client),
+            9 => turn_at(rt, alloc, &self.site_9, client),
+            10 => turn_at(rt, alloc, &self.site_10, client),
+            11 => turn_at(rt, alloc, &self.site_11, client),
+            12 => turn_at(rt, alloc, &self.site_12, client),
+            13 => turn_at(rt, alloc, &self.site_13, client),
+            14 => turn_at(rt, alloc, &self.site_14, client),
+            15 => turn_at(rt, alloc, &self.site_15, client),
             _ => unreachable!(),
         }
     }
@@ -289,6 +345,14 @@ impl<N: Name, D: Disk + Drop, S: Source + Drop, K: Sink + Drop> Cluster<N, D, S,
             5 => pump_at(rt, alloc, &self.site_5, most),
             6 => pump_at(rt, alloc, &self.site_6, most),
             7 => pump_at(rt, alloc, &self.site_7, most),
+            8 => pump_at(rt, alloc, &self.site_8, most),
+            9 => pump_at(rt, alloc, &self.site_9, most),
+            10 => pump_at(rt, alloc, &self.site_10, most),
+            11 => pump_at(rt, alloc, &self.site_11, most),
+            12 => pump_at(rt, alloc, &self.site_12, most),
+            13 => pump_at(rt, alloc, &self.site_13, most),
+            14 => pump_at(rt, alloc, &self.site_14, most),
+            15 => pump_at(rt, alloc, &self.site_15, most),
             _ => unreachable!(),
         }
     }

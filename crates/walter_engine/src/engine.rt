@@ -8,7 +8,7 @@ ghost use Rattle.walter_machine.specs.Machines.{is_up as is_up_machine, catalog_
 
 use crate::answers::{BeginFault, Effect, RefusedRestart};
 use crate::beginning::{begin_over, not_loaded};
-use crate::replaying::format_in;
+use crate::replaying::later_of;
 use crate::restarting::{raise, unloaded};
 use crate::store::{arm, close_unless, into_disk};
 use crate::writing::write;
@@ -233,7 +233,7 @@ impl<D: Disk + Drop> Engine<D> {
         };
         let ready = &mut self.ready;
         let header = book.format();
-        let format = format_in(header, self.machine.format());
+        let format = later_of(header, self.machine.format());
         let Ok(()) = self.machine.prepare(event, header, ready) else {
             self.machine.want(event, came);
             return Effect {

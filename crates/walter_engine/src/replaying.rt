@@ -34,7 +34,7 @@ pub(crate) fn ready_over(
         Ok(tables) => tables,
         Err(why) => return Err(why),
     };
-    let format = format_in(header, tables.format());
+    let format = later_of(header, tables.format());
     match Ready::boot(alloc, tables) {
         Ok(ready) => Ok((ready, format)),
         Err(BootFault::LastEpoch) => Err(Some(RefusedRestart::LastEpoch)),
@@ -95,17 +95,20 @@ fn replay_body(
     ensures site { site_of tables.new ≡ site_of tables.old }
     ensures catalog { catalog_of tables.new ≡ catalog_of tables.old }
 {
-    let format = format_in(header, tables.format());
-    match walter_record::decode(alloc, body, sites, format) {
-        Ok(Some(rec)) if says_again(&rec, format) => Err(ReplayFault::Unfit),
-        Ok(Some(rec)) => tables.replay(rec),
-        Ok(None) => Err(ReplayFault::Unfit),
-        Err(NoMemory) => Err(ReplayFault::NoMemory),
+    let format = later_of(header, tables.format());
+    let rec = match walter_record::decode(alloc, body, sites, format) {
+        Ok(Some(rec)) => rec,
+        Ok(None) => return Err(ReplayFault::Unfit),
+        Err(NoMemory) => return Err(ReplayFault::NoMemory),
+    };
+    if is_told_again(&rec, format) {
+        return Err(ReplayFault::Unfit);
     }
+    tables.replay(rec)
 }
 
-/// The format in force: the header's, or the later one that the records tell.
-pub(crate) fn format_in(header: Format, told: Format) -> Format
+/// The format in force behind a header and records: the later one of those that they tell.
+pub(crate) fn later_of(header: Format, told: Format) -> Format
     ensures { result ≡ in_force header told }
 {
     match header {
@@ -114,7 +117,8 @@ pub(crate) fn format_in(header: Format, told: Format) -> Format
     }
 }
 
-fn says_again(rec: &Record, format: Format) -> bool
+// Where the second format is in force, the record says that this begins.
+fn is_told_again(rec: &Record, format: Format) -> bool
     ensures { result ≡ says_again rec.now format }
 {
     match rec {

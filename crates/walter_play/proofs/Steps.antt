@@ -68,6 +68,8 @@ plain_told told fewer t (step.Advance at from) old new so takes =
     record { answer = takes.answer; acts = takes.acts; drops = λ is. takes.drops (so _ is) }
 plain_told told fewer t (step.Tick site) old new so takes =
     record { answer = takes.answer; acts = takes.acts; drops = λ is. takes.drops (so _ is) }
+plain_told told fewer t (step.Upgrade site) old new so takes =
+    record { answer = takes.answer; acts = takes.acts; drops = λ is. takes.drops (so _ is) }
 plain_told told fewer t (step.Stop site) old new so takes =
     record { answer = takes.answer; acts = takes.acts; drops = λ is. takes.drops (so _ is) }
 plain_told told fewer t (step.Restart site) old new so takes =

@@ -129,6 +129,9 @@ fn take_plain<D: Disk + Drop>(
         Step::Tick(site) => {
             bench.tick(site)?;
         }
+        Step::Upgrade(site) => {
+            bench.upgrade(site)?;
+        }
         Step::Stop(site) => {
             bench.stop(site)?;
         }

@@ -103,9 +103,9 @@ loop-number-preserved g c =
     let row = field_read (λ (v : Vec Sending Global). v.items) rows n c.remove-outs.result [] in_rows (left_first rows c.loop-number.rows.items n is.rows c.remove-outs.result c.remove-outs.ensures.value) in
     let column = field_read (λ (v : Vec Receiving Global). v.items) columns n c.remove-ins.result [] in_columns (left_first columns c.loop-number.columns.items n is.columns c.remove-ins.result c.remove-ins.ensures.value) in
     let list = field_read (λ (v : Vec (Option (LineValue)) Global). v.items) lists n c.remove-lines.result [] in_lists (left_first lists c.loop-number.lists.items n is.lists c.remove-lines.result c.remove-lines.ensures.value) in
-    let Rows : List Sending → Type 0 = λ os. HasBegun g.D.Disk t.catalog t.capacity t.areas (site_at n) disk os c.remove-ins.result.items c.remove-lines.result.items cell in
-    let Columns : List Receiving → Type 0 = λ is. HasBegun g.D.Disk t.catalog t.capacity t.areas (site_at n) disk (row_of (rows_in rows) n) is c.remove-lines.result.items cell in
-    let Lists : List (Option LineValue) → Type 0 = λ ls. HasBegun g.D.Disk t.catalog t.capacity t.areas (site_at n) disk (row_of (rows_in rows) n) (column_of (columns_in columns) n) ls cell in
+    let Rows : List Sending → Type 0 = λ os. HasBegun g.D.Disk t.catalog t.capacity t.areas t.format (site_at n) disk os c.remove-ins.result.items c.remove-lines.result.items cell in
+    let Columns : List Receiving → Type 0 = λ is. HasBegun g.D.Disk t.catalog t.capacity t.areas t.format (site_at n) disk (row_of (rows_in rows) n) is c.remove-lines.result.items cell in
+    let Lists : List (Option LineValue) → Type 0 = λ ls. HasBegun g.D.Disk t.catalog t.capacity t.areas t.format (site_at n) disk (row_of (rows_in rows) n) (column_of (columns_in columns) n) ls cell in
     let one = cell_begins g.D.Disk t n disk (row_of (rows_in rows) n) (column_of (columns_in columns) n) (list_of (lists_in lists) n) cell
     (subst Lists (sym list) (subst Columns (sym column) (subst Rows (sym row) made.opens))) made.begins made.room in
     record {

@@ -18,7 +18,7 @@ returns-in-Ok-boot-clause-ready c =
     is_ready_over c.args.header c.args.catalog.now c.args.id (map (λ body. body.items) c.args.bodies.now) c.in-Ok.tables c.in-Ok-boot.ready
     c.in-Ok.ensures.catalog c.in-Ok.ensures.site c.in-Ok.ensures.told boot.anyway boot.ready boot.boots
     (λ last. absurd (let e = sym c.in-Ok-boot.is ∙ c.boot.ensures.takes_none last in cc))
-    c.format_in-format.result (c.format_in-format.ensures ∙ ap (in_force c.args.header) c.format.ensures)
+    c.later_of-format.result (c.later_of-format.ensures ∙ ap (in_force c.args.header) c.format.ensures)
 
 pub returns-in-Err-LastEpoch-clause-refused : goal.returns-in-Err-LastEpoch-clause-refused
 returns-in-Err-LastEpoch-clause-refused c =

@@ -74,6 +74,17 @@ returns-in_ok-tick-in-Tick-clause-took g c =
           c.tick.ensures.drops;
     })
 
+pub returns-in_ok-upgrade-in-Upgrade-clause-took : goal.returns-in_ok-upgrade-in-Upgrade-clause-took
+returns-in_ok-upgrade-in-Upgrade-clause-took g c =
+    let t = c.args.scenario.now in
+    let there = rw c.in-Upgrade.is at c.requires.there in
+    rw c.in-Upgrade.is (record {
+      answer = c.in_ok-upgrade-in-Upgrade.field-0;
+      acts = c.in_ok-upgrade-in-Upgrade.ensures.acts;
+      drops = drops_of g.D.Disk t c.args.bench.now c.upgrade.new.self c.in-Upgrade.site c.requires.of c.requires.met there
+          c.upgrade.ensures.drops;
+    })
+
 pub returns-in_ok-stop-in-Stop-clause-took : goal.returns-in_ok-stop-in-Stop-clause-took
 returns-in_ok-stop-in-Stop-clause-took g c =
     let t = c.args.scenario.now in

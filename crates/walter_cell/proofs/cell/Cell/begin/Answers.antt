@@ -27,7 +27,7 @@ begins_back {D = D} {N = N} g of_node of_cell shape areas disk (Err e) back is b
 pub returns-in_err-node-clause-begins : goal.returns-in_err-node-clause-begins
 returns-in_err-node-clause-begins g c =
     begins_back {M = NodeValue g.row.D.Denot} {N = CellValue g.row.D.Denot} g.D.Disk (λ node. node.disk) (λ cell. cell.node.disk)
-    (shape_by c.args.capacity c.args.catalog.now.sites) c.args.areas c.args.disk c.from_residual.result c.in_err-node.field-0.0 c.from_residual.ensures.1 c.in_err-node.ensures.begins
+    (shape_by c.args.capacity c.args.catalog.now.sites c.args.format) c.args.areas c.args.disk c.from_residual.result c.in_err-node.field-0.0 c.from_residual.ensures.1 c.in_err-node.ensures.begins
 
 pub invariant_of-result : goal.invariant_of-result
 invariant_of-result g c =

@@ -5,8 +5,8 @@ use Rattle.walter_cluster.specs.Shared.{CanWork, origin_of, origins_of}
 use Rattle.walter_cluster.proofs.Sharing.{held_first, bench_bare}
 use Rattle.walter_cluster.proofs.shared.Cluster.share.Goals as goal
 
-pub lock_last-site_7-requires : goal.lock_last-site_7-requires
-lock_last-site_7-requires g c =
+pub lock_last-site_15-requires : goal.lock_last-site_15-requires
+lock_last-site_15-requires g c =
     let t = c.requires.0 in
     let cells = c.bench.inside.cells.items in
     let are : g.N.Name.origins ≡ origins_of g.D.Disk t cells =
@@ -39,4 +39,12 @@ invariant_of-result g c =
       c.lock_last-site_5.ensures.there,
       c.lock_last-site_6.ensures.there,
       c.lock_last-site_7.ensures.there,
+      c.lock_last-site_8.ensures.there,
+      c.lock_last-site_9.ensures.there,
+      c.lock_last-site_10.ensures.there,
+      c.lock_last-site_11.ensures.there,
+      c.lock_last-site_12.ensures.there,
+      c.lock_last-site_13.ensures.there,
+      c.lock_last-site_14.ensures.there,
+      c.lock_last-site_15.ensures.there,
     )

@@ -114,3 +114,115 @@ turn_at-requires-in-7 g c =
         here_at_home origins homes c.args.client 7 home c.self.invariant.0 at c.in-7.is,
       ),
     )
+
+pub turn_at-requires-in-8 : goal.turn_at-requires-in-8
+turn_at-requires-in-8 g c =
+    let homes = c.self.inside.homes.items in
+    let number : c.args.client < length homes = rw (← c.self.view_is) at c.requires in
+    let home = c.index.result.now in
+    let at = slice_get_read homes (length homes) c.args.client home refl number c.index.ensures in
+    let origins = g.N.Name.origins in (
+      omega arith,
+      (
+        is_there origins homes c.args.client 8 home c.self.invariant.0 at c.in-8.is _ c.self.invariant.9,
+        here_at_home origins homes c.args.client 8 home c.self.invariant.0 at c.in-8.is,
+      ),
+    )
+
+pub turn_at-requires-in-9 : goal.turn_at-requires-in-9
+turn_at-requires-in-9 g c =
+    let homes = c.self.inside.homes.items in
+    let number : c.args.client < length homes = rw (← c.self.view_is) at c.requires in
+    let home = c.index.result.now in
+    let at = slice_get_read homes (length homes) c.args.client home refl number c.index.ensures in
+    let origins = g.N.Name.origins in (
+      omega arith,
+      (
+        is_there origins homes c.args.client 9 home c.self.invariant.0 at c.in-9.is _ c.self.invariant.10,
+        here_at_home origins homes c.args.client 9 home c.self.invariant.0 at c.in-9.is,
+      ),
+    )
+
+pub turn_at-requires-in-10 : goal.turn_at-requires-in-10
+turn_at-requires-in-10 g c =
+    let homes = c.self.inside.homes.items in
+    let number : c.args.client < length homes = rw (← c.self.view_is) at c.requires in
+    let home = c.index.result.now in
+    let at = slice_get_read homes (length homes) c.args.client home refl number c.index.ensures in
+    let origins = g.N.Name.origins in (
+      omega arith,
+      (
+        is_there origins homes c.args.client 10 home c.self.invariant.0 at c.in-10.is _ c.self.invariant.11,
+        here_at_home origins homes c.args.client 10 home c.self.invariant.0 at c.in-10.is,
+      ),
+    )
+
+pub turn_at-requires-in-11 : goal.turn_at-requires-in-11
+turn_at-requires-in-11 g c =
+    let homes = c.self.inside.homes.items in
+    let number : c.args.client < length homes = rw (← c.self.view_is) at c.requires in
+    let home = c.index.result.now in
+    let at = slice_get_read homes (length homes) c.args.client home refl number c.index.ensures in
+    let origins = g.N.Name.origins in (
+      omega arith,
+      (
+        is_there origins homes c.args.client 11 home c.self.invariant.0 at c.in-11.is _ c.self.invariant.12,
+        here_at_home origins homes c.args.client 11 home c.self.invariant.0 at c.in-11.is,
+      ),
+    )
+
+pub turn_at-requires-in-12 : goal.turn_at-requires-in-12
+turn_at-requires-in-12 g c =
+    let homes = c.self.inside.homes.items in
+    let number : c.args.client < length homes = rw (← c.self.view_is) at c.requires in
+    let home = c.index.result.now in
+    let at = slice_get_read homes (length homes) c.args.client home refl number c.index.ensures in
+    let origins = g.N.Name.origins in (
+      omega arith,
+      (
+        is_there origins homes c.args.client 12 home c.self.invariant.0 at c.in-12.is _ c.self.invariant.13,
+        here_at_home origins homes c.args.client 12 home c.self.invariant.0 at c.in-12.is,
+      ),
+    )
+
+pub turn_at-requires-in-13 : goal.turn_at-requires-in-13
+turn_at-requires-in-13 g c =
+    let homes = c.self.inside.homes.items in
+    let number : c.args.client < length homes = rw (← c.self.view_is) at c.requires in
+    let home = c.index.result.now in
+    let at = slice_get_read homes (length homes) c.args.client home refl number c.index.ensures in
+    let origins = g.N.Name.origins in (
+      omega arith,
+      (
+        is_there origins homes c.args.client 13 home c.self.invariant.0 at c.in-13.is _ c.self.invariant.14,
+        here_at_home origins homes c.args.client 13 home c.self.invariant.0 at c.in-13.is,
+      ),
+    )
+
+pub turn_at-requires-in-14 : goal.turn_at-requires-in-14
+turn_at-requires-in-14 g c =
+    let homes = c.self.inside.homes.items in
+    let number : c.args.client < length homes = rw (← c.self.view_is) at c.requires in
+    let home = c.index.result.now in
+    let at = slice_get_read homes (length homes) c.args.client home refl number c.index.ensures in
+    let origins = g.N.Name.origins in (
+      omega arith,
+      (
+        is_there origins homes c.args.client 14 home c.self.invariant.0 at c.in-14.is _ c.self.invariant.15,
+        here_at_home origins homes c.args.client 14 home c.self.invariant.0 at c.in-14.is,
+      ),
+    )
+
+pub turn_at-requires-in-15 : goal.turn_at-requires-in-15
+turn_at-requires-in-15 g c =
+    let homes = c.self.inside.homes.items in
+    let number : c.args.client < length homes = rw (← c.self.view_is) at c.requires in
+    let home = c.index.result.now in
+    let at = slice_get_read homes (length homes) c.args.client home refl number c.index.ensures in
+    let origins = g.N.Name.origins in (
+      omega arith,
+      (
+        is_there origins homes c.args.client 15 home c.self.invariant.0 at c.in-15.is _ c.self.invariant.16,
+        here_at_home origins homes c.args.client 15 home c.self.invariant.0 at c.in-15.is,
+      ),
+    )

@@ -87,7 +87,7 @@ write-frames-requires-clause-room g c down = absurd (let e = sym c.prepare.ensur
 pub write-frames-requires-clause-sites : goal.write-frames-requires-clause-sites
 write-frames-requires-clause-sites g c =
     let places = subst (λ o. (catalog_in c.args.self.now.machine).sites ≤ most_in (header_under {g = g.D.Disk} o c.args.self.now.format)) c.in-Some.is c.args.self.now.places in
-    subst (λ f. (catalog_in c.prepare.new.self).sites ≤ most_in f) (sym (c.format_in-format.ensures ∙ ap (λ h. in_force h c.format.result) c.format-header.ensures))
+    subst (λ f. (catalog_in c.prepare.new.self).sites ≤ most_in f) (sym (c.later_of-format.ensures ∙ ap (λ h. in_force h c.format.result) c.format-header.ensures))
     (enough_in (shape_of c.in-Some.book).header c.format.result
     (omega (arith, ap (λ (x : Catalog). x.sites) c.prepare.ensures.same.catalog, places)))
 
@@ -104,8 +104,8 @@ returns g c =
     c.format-header.ensures
     ∙ sym (laid_as {g = g.D.Disk} c.in-Some.book layout (subst (λ o. IsStored {g = g.D.Disk} layout S o c.args.self.now.disk) was stands.stored).laid) in
     -- the format of its record is the one in force
-    let at : (S : Standing) → Stands {g = g.D.Disk} c.args.self.now S → IsFormatAt c.format_in-format.result layout S = λ S stands.
-    c.format_in-format.ensures
+    let at : (S : Standing) → Stands {g = g.D.Disk} c.args.self.now S → IsFormatAt c.later_of-format.result layout S = λ S stands.
+    c.later_of-format.ensures
     ∙ ap (in_force c.format-header.result) (c.format.ensures S stands.machine (state_up S (tables_in c.args.self.now.machine) stands.machine.state ∙ c.requires.up))
     ∙ told_format c.format-header.result (catalog_in c.args.self.now.machine) (site_in c.args.self.now.machine) S stands.machine.told
     ∙ ap (λ (h : Format). format_at h S.records) (first S stands) in
