@@ -4,16 +4,14 @@
 use Rattle.std.specs.Prelude.{◌≡◌, ◌≢◌, ◌⊎◌, ◌+◌, ◌-◌, ◌/◌, ◌<◌, ◌≤◌, ℕ, min, List, [], ◌∷◌, ◌++◌, length, take, drop, All}
 use Rattle.byteorder.specs.Endian.{big_number}
 use Rattle.walter_base.specs.declared.format.Format.{Format}
-use Rattle.walter_base.specs.declared.format.Format.TheVariants.{First, Second}
 use Rattle.walter_base.specs.Sizes.{most_in}
 use Rattle.walter_checkpoint.specs.Packs.{pack_of}
-use Rattle.walter_journal.specs.Layout.{header_in, span_of, IsShort, HasBehind, IsDamagedBehind}
+use Rattle.walter_journal.specs.Layout.{digit_of, header_in, span_of, IsShort, HasBehind, IsDamagedBehind}
 use Rattle.walter_journal.specs.Layout as journal
 
 -- "WALTERK1", or "WALTERK2" where the records are of the second format
 abbrev pub header_of_two : Format → List ℕ
-header_of_two First = 0x57 ∷ 0x41 ∷ 0x4C ∷ 0x54 ∷ 0x45 ∷ 0x52 ∷ 0x4B ∷ 0x31 ∷ []
-header_of_two Second = 0x57 ∷ 0x41 ∷ 0x4C ∷ 0x54 ∷ 0x45 ∷ 0x52 ∷ 0x4B ∷ 0x32 ∷ []
+header_of_two format = 0x57 ∷ 0x41 ∷ 0x4C ∷ 0x54 ∷ 0x45 ∷ 0x52 ∷ 0x4B ∷ digit_of format ∷ []
 
 -- how a book lies on its disk, beside the bodies that it has
 pub record Shape : Type 0 where
@@ -67,7 +65,7 @@ abbrev pub IsForeign : (capacity sites : ℕ) → List ℕ → Type 0
 IsForeign capacity sites bytes =
     (length bytes < 9)
     ⊎ ((header : Format) → sites ≤ most_in header
-      → (take 8 bytes ≢ header_in header) × ((take 8 bytes ≢ header_of_two header) ⊎ (capacity < 47)))
+    → (take 8 bytes ≢ header_in header) × ((take 8 bytes ≢ header_of_two header) ⊎ (capacity < 47)))
 
 -- no list of bodies is packed at the front of these bytes, with a byte behind it
 abbrev pub HasNoPack : ℕ → List ℕ → Type 0

@@ -1,5 +1,6 @@
 //! Loads the book of a disk, and begins one on a disk of no bytes.
 ghost use Rattle.std.specs.Prelude.{◌≡◌, ◌≢◌, ◌+◌, ◌-◌, ◌/◌, ◌<◌, ◌≤◌, ◌++◌, ◌∷◌, [], ℕ, length, is_some, false, IsSome, IfSome, IfOk, IfErr, OnOk};
+ghost use Rattle.walter_base.specs.Sizes.{most_in};
 ghost use Rattle.walter_disk.specs.Images.{Only, Narrows, IsDurable, IsImage, LeavesOnly};
 ghost use Rattle.walter_journal.specs.Faults.{IsDiskFault};
 ghost use Rattle.walter_journal.specs.Steps.{IsLeft};
@@ -7,12 +8,13 @@ ghost use Rattle.walter_journal.specs.Zeros.{zeros, writes_of};
 ghost use Rattle.walter_checkpoint.specs.Areas.{header_of_two, shape_by, area_size};
 ghost use Rattle.walter_checkpoint.specs.Books.{areas_of, disk_of, StandsFor, GoesOnBehind, IsReady, HasPackRoom, HasRoomOn, shape_of, limit_of};
 ghost use Rattle.walter_checkpoint.specs.Faults.{HasCause};
-ghost use Rattle.walter_checkpoint.specs.Loads.{IsAreas, IsOpened, IsStocked, new_bytes, new_size, calls_of_load, disk_behind};
+ghost use Rattle.walter_checkpoint.specs.Loads.{IsAreas, found_shape, IsOpened, IsStocked, new_bytes, new_size, calls_of_load, disk_behind};
 
 use crate::book::{Book, Live, Other, other_area};
 use crate::packing::renewal;
-use crate::reading::{Found, HEADER_OF_TWO, read_book};
+use crate::reading::{Found, read_book, two_header};
 use std::alloc::{AllocError, Global};
+use walter_base::Format;
 use walter_disk::{Disk, NoMemory};
 use walter_journal::{Bodies, Journal, JournalFault, begin, fill, settle_and_read};
 
@@ -97,12 +99,12 @@ fn with_found<D: Disk>(
     found: Found,
     stock: Stock,
 ) -> (Book<D>, Bodies)
-    requires opened { IsOpened (shape_by capacity sites) found (D.may_leave disk) (D.known disk) }
-    requires stocked { IsStocked D.Disk disk (shape_by capacity sites) found stock }
+    requires opened { IsOpened (found_shape capacity sites found) found (D.may_leave disk) (D.known disk) }
+    requires stocked { IsStocked D.Disk disk (found_shape capacity sites found) found stock }
     ensures disk { disk_of result.0 ≡ disk }
     ensures stands { IsSome (D.known disk).reads → StandsFor result.0 result.1 }
     ensures bodies { result.1 ≡ found.bodies }
-    ensures shape { shape_of result.0 ≡ shape_by capacity sites }
+    ensures shape { shape_of result.0 ≡ found_shape capacity sites found }
     ensures live { result.0.live ≡ found.live }
     ensures goes_on { GoesOnBehind result.0 result.1 }
     ensures ready { IsReady result.0 result.1 }
@@ -113,12 +115,18 @@ fn with_found<D: Disk>(
         Live::A => 9 + (capacity - 9) / 2,
         Live::B => 9 + (capacity - 9) / 2 * 2,
     };
-    let Found { live, bodies, end } = found;
+    let Found {
+        live,
+        bodies,
+        end,
+        format,
+    } = found;
     let Stock { renewal, zeros } = stock;
     let book = Book {
         journal: Journal::new(alloc, disk, limit, end),
         capacity,
         sites,
+        format,
         live,
         renewal,
         zeros,
@@ -133,24 +141,27 @@ fn open<D: Disk>(
     capacity: u64,
     areas: u8,
     sites: u8,
+    format: Format,
 ) -> Result<(Found, Stock), JournalFault>
     requires areas { IsAreas areas capacity }
+    requires places { sites ≤ most_in format }
     ensures opened { IfOk result (λ it.
-        IsOpened (shape_by capacity sites) it.0 (D.may_leave disk.new) (D.known disk.new)) }
-    ensures stocked { IfOk result (λ it. IsStocked D.Disk disk.new (shape_by capacity sites) it.0 it.1) }
+        IsOpened (found_shape capacity sites it.0) it.0 (D.may_leave disk.new) (D.known disk.new)) }
+    ensures stocked { IfOk result (λ it. IsStocked D.Disk disk.new (found_shape capacity sites it.0) it.0 it.1) }
     ensures fresh { (D.known disk.old).size ≡ 0 → IfOk result (λ it. it.0.bodies ≡ []) }
-    ensures made { (D.known disk.old).size ≡ 0 → IfOk result (λ it. areas_of it.0.live ≡ areas) }
+    ensures made { (D.known disk.old).size ≡ 0
+        → IfOk result (λ it. (areas_of it.0.live ≡ areas) × (it.0.format ≡ format)) }
     ensures image { 0 < (D.known disk.old).size
         → OnOk result (IsImage (D.known disk.new).reads (D.may_leave disk.old)) }
     ensures header { (D.known disk.old).size ≡ 0 → OnOk result (IfSome (D.known disk.new).reads
-        (λ bytes. bytes ≡ new_bytes (shape_by capacity sites) areas)) }
+        (λ bytes. bytes ≡ new_bytes (shape_by capacity sites format) areas)) }
     ensures first { (D.known disk.old).size ≡ 0 → Only [] (D.may_leave disk.old)
         → LeavesOnly D.moment D.left_since disk.old disk.new
-        (λ image. length image ≤ new_size (shape_by capacity sites) areas) }
+        (λ image. length image ≤ new_size (shape_by capacity sites format) areas) }
     ensures device { OnOk result (D.device_calls disk.new ≡ D.device_calls disk.old
-        + calls_of_load (shape_by capacity sites) areas (D.known disk.old).size) }
+        + calls_of_load (shape_by capacity sites format) areas (D.known disk.old).size) }
     ensures at_most { D.device_calls disk.new ≤ D.device_calls disk.old
-        + calls_of_load (shape_by capacity sites) areas (D.known disk.old).size }
+        + calls_of_load (shape_by capacity sites format) areas (D.known disk.old).size }
     ensures settled { 0 < (D.known disk.old).size
         → IsLeft (D.may_leave disk.old) (D.known disk.old) (D.known disk.new) }
     ensures faultless { OnOk result ((D.known disk.new).faults ≡ (D.known disk.old).faults) }
@@ -161,7 +172,7 @@ fn open<D: Disk>(
     ensures any_moment { 0 < (D.known disk.old).size
         → LeavesOnly D.moment D.left_since disk.old disk.new (D.may_leave disk.old) }
 {
-    let found = find(alloc, disk, capacity, areas, sites)?;
+    let found = find(alloc, disk, capacity, areas, sites, format)?;
     let stock = take_stock(alloc, disk, capacity, sites, &found)?;
     Ok((found, stock))
 }
@@ -174,8 +185,10 @@ fn take_stock<D: Disk>(
     sites: u8,
     found: &Found,
 ) -> Result<Stock, NoMemory>
-    requires opened { IsOpened (shape_by capacity sites) found.now (D.may_leave disk.old) (D.known disk.old) }
-    ensures ok { IfOk result (λ stock. IsStocked D.Disk disk.new (shape_by capacity sites) found.now stock) }
+    requires opened { IsOpened (found_shape capacity sites found.now) found.now (D.may_leave disk.old)
+        (D.known disk.old) }
+    ensures ok { IfOk result (λ stock.
+        IsStocked D.Disk disk.new (found_shape capacity sites found.now) found.now stock) }
     ensures same { D.known disk.new ≡ D.known disk.old }
     ensures device { D.device_calls disk.new ≡ D.device_calls disk.old }
     ensures crash { Narrows (D.may_leave disk.old) (D.may_leave disk.new) }
@@ -202,23 +215,26 @@ fn find<D: Disk>(
     capacity: u64,
     areas: u8,
     sites: u8,
+    format: Format,
 ) -> Result<Found, JournalFault>
     requires areas { IsAreas areas capacity }
+    requires places { sites ≤ most_in format }
     ensures opened { IfOk result (λ found.
-        IsOpened (shape_by capacity sites) found (D.may_leave disk.new) (D.known disk.new)) }
+        IsOpened (found_shape capacity sites found) found (D.may_leave disk.new) (D.known disk.new)) }
     ensures fresh { (D.known disk.old).size ≡ 0 → IfOk result (λ found. found.bodies ≡ []) }
-    ensures made { (D.known disk.old).size ≡ 0 → IfOk result (λ found. areas_of found.live ≡ areas) }
+    ensures made { (D.known disk.old).size ≡ 0
+        → IfOk result (λ found. (areas_of found.live ≡ areas) × (found.format ≡ format)) }
     ensures image { 0 < (D.known disk.old).size
         → OnOk result (IsImage (D.known disk.new).reads (D.may_leave disk.old)) }
     ensures header { (D.known disk.old).size ≡ 0 → OnOk result (IfSome (D.known disk.new).reads
-        (λ bytes. bytes ≡ new_bytes (shape_by capacity sites) areas)) }
+        (λ bytes. bytes ≡ new_bytes (shape_by capacity sites format) areas)) }
     ensures first { (D.known disk.old).size ≡ 0 → Only [] (D.may_leave disk.old)
         → LeavesOnly D.moment D.left_since disk.old disk.new
-        (λ image. length image ≤ new_size (shape_by capacity sites) areas) }
+        (λ image. length image ≤ new_size (shape_by capacity sites format) areas) }
     ensures device { OnOk result (D.device_calls disk.new ≡ D.device_calls disk.old
-        + calls_of_load (shape_by capacity sites) areas (D.known disk.old).size) }
+        + calls_of_load (shape_by capacity sites format) areas (D.known disk.old).size) }
     ensures at_most { D.device_calls disk.new ≤ D.device_calls disk.old
-        + calls_of_load (shape_by capacity sites) areas (D.known disk.old).size }
+        + calls_of_load (shape_by capacity sites format) areas (D.known disk.old).size }
     ensures settled { 0 < (D.known disk.old).size
         → IsLeft (D.may_leave disk.old) (D.known disk.old) (D.known disk.new) }
     ensures faultless { OnOk result ((D.known disk.new).faults ≡ (D.known disk.old).faults) }
@@ -230,7 +246,7 @@ fn find<D: Disk>(
         → LeavesOnly D.moment D.left_since disk.old disk.new (D.may_leave disk.old) }
 {
     if disk.size() == 0 {
-        begin_book(alloc, disk, capacity, areas)
+        begin_book(alloc, disk, capacity, areas, format)
     } else {
         resume(alloc, disk, capacity, sites)
     }
@@ -245,7 +261,7 @@ fn resume<D: Disk>(
 ) -> Result<Found, JournalFault>
     requires some { 0 < (D.known disk.old).size }
     ensures opened { IfOk result (λ found.
-        IsOpened (shape_by capacity sites) found (D.may_leave disk.new) (D.known disk.new)) }
+        IsOpened (found_shape capacity sites found) found (D.may_leave disk.new) (D.known disk.new)) }
     ensures image { OnOk result (IsImage (D.known disk.new).reads (D.may_leave disk.old)) }
     ensures device { OnOk result (D.device_calls disk.new ≡ D.device_calls disk.old + 1) }
     ensures at_most { D.device_calls disk.new ≤ D.device_calls disk.old + 1 }
@@ -267,22 +283,23 @@ fn begin_book<D: Disk>(
     disk: &mut D,
     capacity: u64,
     areas: u8,
+    format: Format,
 ) -> Result<Found, JournalFault>
     requires areas { IsAreas areas capacity }
     requires none { (D.known disk.old).size ≡ 0 }
-    ensures opened { (sites : ℕ) → IfOk result (λ found.
-        IsOpened (shape_by capacity sites) found (D.may_leave disk.new) (D.known disk.new)) }
+    ensures opened { (sites : ℕ) → sites ≤ most_in format → IfOk result (λ found.
+        IsOpened (found_shape capacity sites found) found (D.may_leave disk.new) (D.known disk.new)) }
     ensures empty { IfOk result (λ found. found.bodies ≡ []) }
-    ensures made { IfOk result (λ found. areas_of found.live ≡ areas) }
+    ensures made { IfOk result (λ found. (areas_of found.live ≡ areas) × (found.format ≡ format)) }
     ensures header { (sites : ℕ) → OnOk result (IfSome (D.known disk.new).reads
-        (λ bytes. bytes ≡ new_bytes (shape_by capacity sites) areas)) }
+        (λ bytes. bytes ≡ new_bytes (shape_by capacity sites format) areas)) }
     ensures first { (sites : ℕ) → Only [] (D.may_leave disk.old)
         → LeavesOnly D.moment D.left_since disk.old disk.new
-        (λ image. length image ≤ new_size (shape_by capacity sites) areas) }
+        (λ image. length image ≤ new_size (shape_by capacity sites format) areas) }
     ensures device { (sites : ℕ) → OnOk result (D.device_calls disk.new
-        ≡ D.device_calls disk.old + (writes_of (new_size (shape_by capacity sites) areas) + 1)) }
+        ≡ D.device_calls disk.old + (writes_of (new_size (shape_by capacity sites format) areas) + 1)) }
     ensures at_most { (sites : ℕ) → D.device_calls disk.new
-        ≤ D.device_calls disk.old + (writes_of (new_size (shape_by capacity sites) areas) + 1) }
+        ≤ D.device_calls disk.old + (writes_of (new_size (shape_by capacity sites format) areas) + 1) }
     ensures faultless { OnOk result ((D.known disk.new).faults ≡ (D.known disk.old).faults) }
     ensures cause { (sites : ℕ) → IfErr result (λ fault.
         HasCause capacity sites fault (D.may_leave disk.old) (D.known disk.old) (D.known disk.new)) }
@@ -290,28 +307,35 @@ fn begin_book<D: Disk>(
     ensures tells { is_some (D.known disk.new).reads ≡ is_some (D.known disk.old).reads }
 {
     if areas == 2 {
-        begin_two(alloc, disk, 9 + (capacity - 9) / 2)?;
+        begin_two(alloc, disk, 9 + (capacity - 9) / 2, format)?;
         return Ok(Found {
             live: Live::A,
             bodies: Bodies::new(alloc),
             end: 18,
+            format,
         });
     }
-    let (bodies, end) = begin(alloc, disk)?;
+    let (bodies, end, format) = begin(alloc, disk, format)?;
     Ok(Found {
         live: Live::Whole,
         bodies,
         end,
+        format,
     })
 }
 
 // Makes an empty book of two areas on a disk of no bytes: the header, and zeros up to a place.
-fn begin_two<D: Disk>(alloc: Global, disk: &mut D, to: u64) -> Result<(), JournalFault>
+fn begin_two<D: Disk>(
+    alloc: Global,
+    disk: &mut D,
+    to: u64,
+    format: Format,
+) -> Result<(), JournalFault>
     requires empty { (D.known disk.old).size ≡ 0 }
     requires least { 28 ≤ to }
     requires most { to ≤ 9223372036854775816 }
     ensures header { OnOk result (IfSome (D.known disk.new).reads (λ bytes.
-        bytes ≡ header_of_two ++ zeros (to - 8))) }
+        bytes ≡ header_of_two format ++ zeros (to - 8))) }
     ensures size { OnOk result ((D.known disk.new).size ≡ to) }
     ensures durable { OnOk result (IsDurable (D.known disk.new).reads (D.may_leave disk.new)) }
     ensures whole { OnOk result ((D.known disk.new).broken ≡ false) }
@@ -326,8 +350,8 @@ fn begin_two<D: Disk>(alloc: Global, disk: &mut D, to: u64) -> Result<(), Journa
 {
     disk.reserve(to, (to + 65_535) / 65_536 + 1)?;
     let rest = zeros_of(alloc, to.min(65_536) as usize)?;
-    let mut front = Vec::from_slice(alloc, &HEADER_OF_TWO)?;
-    front.extend_from_slice(&rest[HEADER_OF_TWO.len()..])?;
+    let mut front = Vec::from_slice(alloc, &two_header(format))?;
+    front.extend_from_slice(&rest[8..])?;
     disk.write_at(0, &front)?;
     fill(disk, &rest, to)?;
     disk.sync()?;

@@ -1,24 +1,80 @@
 //! Reads the bytes of a book: which part of them is live, and which bodies stand there.
-ghost use Rattle.std.specs.Prelude.{◌≡◌, ◌≢◌, ◌^◌, ◌<◌, ◌≤◌, length, take, drop, IfOk, IfErr};
-ghost use Rattle.walter_checkpoint.specs.Areas.{header_of_two, shape_by};
+ghost use Rattle.std.specs.Prelude.{◌≡◌, ◌≢◌, ◌⊎◌, ◌^◌, ◌<◌, ◌≤◌, ℕ, length, take, drop, true, false, IfSome, IfNone, IfOk, IfErr};
+ghost use Rattle.walter_base.specs.Sizes.{most_in};
+ghost use Rattle.walter_journal.specs.Layout.{header_in};
+ghost use Rattle.walter_checkpoint.specs.Areas.{header_of_two};
 ghost use Rattle.walter_checkpoint.specs.Books.{IsLivePart, IsAreaRead, IsRead};
 ghost use Rattle.walter_checkpoint.specs.Faults.{IsAreaWrong, IsWrong};
+ghost use Rattle.walter_checkpoint.specs.Loads.{found_shape};
 
 use crate::book::Live;
 use crate::unpacking::{read_pack, told_length};
 use std::alloc::Global;
-use walter_journal::{Bodies, JournalFault, bodies_behind, bodies_of};
+use walter_base::{Format, MOST_SITES};
+use walter_journal::{Bodies, JournalFault, bodies_behind, header_of};
 
-/// What a book of two areas begins with.
-pub(crate) const HEADER_OF_TWO: [u8; 8] = *b"WALTERK1";
+/// What a book of two areas begins with, whose records are of this format.
+pub(crate) fn two_header(format: Format) -> [u8; 8]
+    ensures { result ≡ header_of_two format }
+{
+    match format {
+        Format::First => *b"WALTERK1",
+        Format::Second => *b"WALTERK2",
+    }
+}
 
-/// What was found in the bytes of a book: which part of them is live, the bodies, and the place behind the gate that
-/// ends them.
+/// What was found in the bytes of a book: which part of them is live, the bodies, the place behind the gate that ends
+/// them, and the format that the header names.
 #[derive(Debug, Drop)]
 pub(crate) struct Found {
     pub(crate) live: Live,
     pub(crate) bodies: Bodies,
     pub(crate) end: u64,
+    pub(crate) format: Format,
+}
+
+// Whether a vector of the format has places for so many sites.
+fn has_places(format: Format, sites: u8) -> bool
+    ensures yes { result ≡ true → sites ≤ most_in format }
+    ensures no { result ≡ false → most_in format < sites }
+{
+    match format {
+        Format::First => sites <= 8,
+        Format::Second => sites as usize <= MOST_SITES,
+    }
+}
+
+// The format of the book of one area that the bytes begin as.
+fn format_of_one(bytes: &[u8], sites: u8) -> Option<Format>
+    ensures some { IfSome result (λ format. (sites ≤ most_in format) × (take 8 bytes.now ≡ header_in format)) }
+    ensures none { IfNone result ((format : Format) → sites ≤ most_in format → take 8 bytes.now ≢ header_in format) }
+{
+    if has_places(Format::First, sites) && bytes.starts_with(&header_of(Format::First)) {
+        return Some(Format::First);
+    }
+    if has_places(Format::Second, sites) && bytes.starts_with(&header_of(Format::Second)) {
+        return Some(Format::Second);
+    }
+    None
+}
+
+// The format of the book of two areas that the bytes begin as, where the capacity is great enough for these.
+fn format_of_two(bytes: &[u8], capacity: u64, sites: u8) -> Option<Format>
+    ensures some { IfSome result (λ format.
+        (sites ≤ most_in format) × (take 8 bytes.now ≡ header_of_two format) × (47 ≤ capacity)) }
+    ensures none { IfNone result ((format : Format) → sites ≤ most_in format
+        → (take 8 bytes.now ≢ header_of_two format) ⊎ (capacity < 47)) }
+{
+    if capacity < 47 {
+        return None;
+    }
+    if has_places(Format::First, sites) && bytes.starts_with(&two_header(Format::First)) {
+        return Some(Format::First);
+    }
+    if has_places(Format::Second, sites) && bytes.starts_with(&two_header(Format::Second)) {
+        return Some(Format::Second);
+    }
+    None
 }
 
 /// What the bytes are a book of.
@@ -29,28 +85,56 @@ pub(crate) fn read_book(
     sites: u8,
 ) -> Result<Found, JournalFault>
     ensures ok { IfOk result (λ found.
-        IsRead (shape_by capacity sites) found.live bytes.now found.bodies found.end) }
-    ensures fault { IfErr result (IsWrong (shape_by capacity sites) bytes.now) }
+        IsRead (found_shape capacity sites found) found.live bytes.now found.bodies found.end) }
+    ensures places { IfOk result (λ found. sites ≤ most_in found.format) }
+    ensures fault { IfErr result (IsWrong capacity sites bytes.now) }
 {
-    if capacity >= 47 && bytes.len() > HEADER_OF_TWO.len() && bytes.starts_with(&HEADER_OF_TWO) {
-        return read_two(alloc, bytes, capacity, sites);
+    if bytes.len() <= 8 {
+        return Err(JournalFault::Foreign);
     }
-    let (bodies, end) = bodies_of(alloc, bytes)?;
+    if let Some(format) = format_of_two(bytes, capacity, sites) {
+        return read_two(alloc, bytes, capacity, sites, format);
+    }
+    match format_of_one(bytes, sites) {
+        Some(format) => read_one(alloc, bytes, format),
+        None => Err(JournalFault::Foreign),
+    }
+}
+
+// What the bytes are a book of that begins as one of one area does, of this format.
+fn read_one(alloc: Global, bytes: &[u8], format: Format) -> Result<Found, JournalFault>
+    requires long { 8 < length bytes.now }
+    requires header { take 8 bytes.now ≡ header_in format }
+    ensures ok { (capacity sites : ℕ) → IfOk result (λ found.
+        IsRead (found_shape capacity sites found) found.live bytes.now found.bodies found.end) }
+    ensures format { IfOk result (λ found. found.format ≡ format) }
+    ensures fault { (capacity sites : ℕ) → sites ≤ most_in format → IfErr result (IsWrong capacity sites bytes.now) }
+{
+    let (bodies, end) = bodies_behind(alloc, bytes, 8)?;
     Ok(Found {
         live: Live::Whole,
         bodies,
         end: end as u64,
+        format,
     })
 }
 
-// What the bytes are a book of that begins as one of two areas does.
-fn read_two(alloc: Global, bytes: &[u8], capacity: u64, sites: u8) -> Result<Found, JournalFault>
+// What the bytes are a book of that begins as one of two areas does, of this format.
+fn read_two(
+    alloc: Global,
+    bytes: &[u8],
+    capacity: u64,
+    sites: u8,
+    format: Format,
+) -> Result<Found, JournalFault>
     requires least { 47 ≤ capacity }
     requires long { 8 < length bytes.now }
-    requires header { take 8 bytes.now ≡ header_of_two }
+    requires places { sites ≤ most_in format }
+    requires header { take 8 bytes.now ≡ header_of_two format }
     ensures ok { IfOk result (λ found.
-        IsRead (shape_by capacity sites) found.live bytes.now found.bodies found.end) }
-    ensures fault { IfErr result (IsWrong (shape_by capacity sites) bytes.now) }
+        IsRead (found_shape capacity sites found) found.live bytes.now found.bodies found.end) }
+    ensures format { IfOk result (λ found. found.format ≡ format) }
+    ensures fault { IfErr result (IsWrong capacity sites bytes.now) }
 {
     let size = (capacity - 9) / 2;
     let (live, place) = live_part(bytes[8], size);
@@ -59,6 +143,7 @@ fn read_two(alloc: Global, bytes: &[u8], capacity: u64, sites: u8) -> Result<Fou
             live,
             bodies,
             end: place + end as u64,
+            format,
         }),
         Err(JournalFault::Damaged { at, length }) => Err(JournalFault::Damaged {
             at: place + at,

@@ -1,5 +1,5 @@
 -- What a journal on a disk stands for (docs/FORMATS.md, "Journal"): bodies that are safe, so that each crash leaves them.
-use Rattle.std.specs.Prelude.{◌≡◌, ◌==◌, ◌+◌, ◌-◌, ◌≤◌, if◌then◌else◌, ℕ, false, List, [], ◌∷◌, ◌++◌, length, Some, Result, Ok, Err, vec_capacity}
+use Rattle.std.specs.Prelude.{◌≡◌, ◌==◌, ◌+◌, ◌-◌, ◌≤◌, if◌then◌else◌, ℕ, false, List, length, Some, Result, Ok, Err, vec_capacity}
 use Rattle.walter_base.specs.declared.format.Format.{Format}
 use Rattle.walter_disk.specs.Images.{Only}
 use Rattle.walter_disk.specs.declared.disk.Disk.{Ghosts}

@@ -11,7 +11,7 @@ use std::alloc::Global;
 use walter_base::Format;
 
 /// What a journal begins with, in front of its first gate, whose records are of this format.
-pub(crate) fn header_of(format: Format) -> [u8; 8]
+pub fn header_of(format: Format) -> [u8; 8]
     ensures { result ≡ header_in format }
 {
     match format {

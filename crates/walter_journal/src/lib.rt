@@ -12,5 +12,5 @@ pub use bodies::Bodies;
 pub use fault::{AppendFault, JournalFault};
 pub use filling::fill;
 pub use journal::Journal;
-pub use layout::{bodies_behind, bodies_of, layouts_differ, record_at};
+pub use layout::{bodies_behind, bodies_of, header_of, layouts_differ, record_at};
 pub use loading::{begin, load, settle_and_read};

@@ -1,4 +1,4 @@
-use Rattle.std.proofs.Common.{◌≡◌, ◌≤◌, ◌++◌, ◌∷◌, [], length, refl, sym, ap, subst, arith, rules}
+use Rattle.std.proofs.Common.{◌≡◌, ◌≤◌, ◌++◌, ◌∷◌, [], length, refl, sym, ap, subst, rules}
 use Rattle.std.specs.Prelude.{IfSome}
 use Rattle.walter_disk.specs.Images.{LeavesOnly}
 use Rattle.walter_journal.specs.Layout.{header_in}
