@@ -65,6 +65,7 @@ impl<D: Disk + Drop, S: Source + Drop, K: Sink + Drop> Cell<D, S, K> {
     ghost use Rattle.walter_cell.specs.Turns.{ServesAt, AreSameBut};
     ghost use Rattle.walter_cell.specs.Nodes.{arms_under, is_told, places_in, standing_of};
     ghost use Rattle.walter_rules.specs.Deliveries.{IsLeastEnabled};
+    ghost use Rattle.walter_rules.specs.Layouts.{header_of};
 
     /// A site over its disk, up in its first epoch, with memory for so many entries. Where it doesn't begin the disk
     /// comes back.
@@ -97,6 +98,13 @@ impl<D: Disk + Drop, S: Source + Drop, K: Sink + Drop> Cell<D, S, K> {
     {
         let node = Node::begin(alloc, disk, catalog, site, capacity, areas, format, room, outs)?;
         Ok(Cell { node, ins, lines })
+    }
+
+    /// The format that the header of its journal names.
+    pub fn header(&self) -> Format
+        ensures { result ≡ header_of self.now.node.layout }
+    {
+        self.node.header()
     }
 
     /// The disk, the trail so far, and the rest, with the connections.

@@ -70,6 +70,7 @@ impl<D: Disk> Model for Node<D> {
 
 impl<D: Disk + Drop> Node<D> {
     ghost use Rattle.walter_rules.specs.Deliveries.{IsLeastEnabled};
+    ghost use Rattle.walter_rules.specs.Layouts.{header_of};
     ghost use Rattle.walter_rules.specs.Trails.{IsNextStamp};
     ghost use Rattle.walter_cell.specs.Nodes.{clock_in, places_in, standing_of, IsReady, IsSameButRoom, IsSameButLanes, IsSameButDisk};
     ghost use Rattle.walter_cell.specs.Nodes.{IsSound, Takes, arms_under, is_told};
@@ -113,6 +114,13 @@ impl<D: Disk + Drop> Node<D> {
             clock: 1,
             outs,
         })
+    }
+
+    /// The format that the header of its journal names.
+    pub fn header(&self) -> Format
+        ensures { result ≡ header_of self.now.layout }
+    {
+        self.engine.header()
     }
 
     /// The disk, the trail so far, and what the site knew.

@@ -1,5 +1,5 @@
 //! The cells of all sites, bare: clients get their turns, and events come to the sites.
-ghost use Rattle.std.specs.Prelude.{◌≡◌, ◌≢◌, ◌<◌, ℕ, List, length, slice_get, Some, true, IsOk, OnErr, OnOk, IfOk};
+ghost use Rattle.std.specs.Prelude.{◌≡◌, ◌≢◌, ◌<◌, ℕ, List, length, map, slice_get, Some, true, IsOk, OnErr, OnOk, IfOk};
 ghost use Rattle.walter_base.specs.declared.names.SiteId.{SiteId};
 ghost use Rattle.walter_cell.specs.Cells.{CellValue};
 ghost use Rattle.walter_cell.specs.Entries.{IsPlain};
@@ -8,6 +8,7 @@ ghost use Rattle.walter_cell.specs.Nodes.{is_told};
 ghost use Rattle.walter_cluster.specs.Meetings.{HasArrived, HasGathered};
 ghost use Rattle.walter_cluster.specs.Pumps.{IsPumpAt, PumpsAt};
 ghost use Rattle.walter_cluster.specs.Turns.{ServesAtHome};
+ghost use Rattle.walter_rules.specs.Layouts.{header_of};
 ghost use Rattle.walter_rules.specs.declared.event.Event.TheVariants as event;
 ghost use Rattle.walter_rules.specs.declared.event.Input.TheVariants as input;
 ghost use Rattle.walter_trail.specs.Calls.{calls_of};
@@ -16,7 +17,7 @@ ghost use Rattle.walter_cluster.specs.Moments.{moment_of, trail_at, KeepsArms, T
 use crate::meeting::meet_all;
 use std::alloc::Global;
 use std::marker::Model;
-use walter_base::{Mem, SiteId};
+use walter_base::{Format, Mem, SiteId};
 use walter_cell::{Acted, Cell, Moved, Pumped, Remains, Serve, pumped};
 use walter_disk::Disk;
 use walter_link::Pump;
@@ -60,6 +61,13 @@ impl<D: Disk, S: Source + Drop, K: Sink + Drop> Model for Bench<D, S, K> {
 
 impl<D: Disk + Drop, S: Source + Drop, K: Sink + Drop> Bench<D, S, K> {
     ghost use Rattle.walter_cluster.specs.Benches.{BenchValue, Keeps, AreMet, IsToldAt, lines_at, trails_of};
+
+    /// The formats that the headers of the journals name, by the numbers of the sites.
+    pub fn headers(&self, alloc: Global) -> Mem<Vec<Format>>
+        ensures { IfOk result (λ headers. headers.items ≡ map (λ (c : CellValue D). header_of c.node.layout) self.now.cells) }
+    {
+        headers_of(alloc, &self.cells)
+    }
 
     /// Gives a client its turn at its site: its next call comes to the trail there, or nothing does.
     pub fn turn(&mut self, alloc: Global, number: u32) -> Mem<Serve>
@@ -242,4 +250,17 @@ impl<D: Disk + Drop, S: Source + Drop, K: Sink + Drop> Bench<D, S, K> {
     {
         self.cells[usize::from(site.0)].arm(nth, choice)
     }
+}
+
+fn headers_of<D: Disk + Drop, S: Source + Drop, K: Sink + Drop>(
+    alloc: Global,
+    cells: &[Cell<D, S, K>],
+) -> Mem<Vec<Format>>
+    ensures { IfOk result (λ headers. headers.items ≡ map (λ (c : CellValue D). header_of c.node.layout) cells.now) }
+{
+    let mut headers = Vec::new(alloc);
+    for cell in cells {
+        headers.push(cell.header())?;
+    }
+    Ok(headers)
 }

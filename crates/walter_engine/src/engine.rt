@@ -56,6 +56,7 @@ impl<D: Disk + Drop> Engine<D> {
     ghost use Rattle.walter_machine.specs.States.{AreTold, IsSizedEvent};
     ghost use Rattle.walter_packet.specs.Framed.{frame_of};
     ghost use Rattle.walter_rules.specs.Deliveries.{IsLeastEnabled};
+    ghost use Rattle.walter_rules.specs.Layouts.{header_of};
     ghost use Rattle.walter_rules.specs.Standing.{Standing};
     ghost use Rattle.walter_rules.specs.Trails.{standing, opening};
     ghost use Rattle.walter_rules.specs.declared.event.Event.TheVariants as happens;
@@ -115,6 +116,14 @@ impl<D: Disk + Drop> Engine<D> {
         ensures { result ≡ is_up self.now }
     {
         self.machine.is_up()
+    }
+
+    /// The format that the header of its journal names: the one that was asked for, or, once the site has begun, the one
+    /// that was found.
+    pub fn header(&self) -> Format
+        ensures { result ≡ header_of (layout_in self.now) }
+    {
+        self.format
     }
 
     fn sites(&self) -> u8
