@@ -10,8 +10,7 @@ use Rattle.walter_base.specs.declared.catalog.Catalog.{Catalog}
 use Rattle.walter_base.specs.declared.names.Kind.{Kind}
 use Rattle.walter_base.specs.declared.names.Kind.TheVariants.{Regular, Cset}
 use Rattle.walter_base.specs.Catalogs.{Item, IsWrong, too_many, falls, nowhere, AreRight, AreRightBelow, containers_of}
-use Rattle.walter_base.specs.declared.format.Format.TheVariants.{First}
-use Rattle.walter_base.specs.Sizes.{most_in}
+use Rattle.walter_base.specs.Vectors.{most_sites}
 use Rattle.walter_scenario.specs.declared.place.Place.TheVariants.{Containers}
 use Rattle.walter_scenario.specs.Faults.{IsItem, HaveContainers}
 use Rattle.walter_scenario.specs.Fronts.{IsContainer, IsFront, IsCatalog}
@@ -51,7 +50,7 @@ right_front sites items n end h right place within wrong =
 abbrev Fits : Item → Type 0
 Fits c = IsContainer c × (c.2.0 < 256)
 
-site_fits : (sites : ℕ) → sites ≤ most_in First → (cs : List Item) (k : ℕ) (d : Item) → k < length cs → AreRight sites cs
+site_fits : (sites : ℕ) → sites ≤ most_sites → (cs : List Item) (k : ℕ) (d : Item) → k < length cs → AreRight sites cs
     → (get_or cs k d).2.0 < 256
 site_fits sites few cs k d h right =
     elim (cases_lt ((get_or cs k d).2.0) sites) [
@@ -59,7 +58,7 @@ site_fits sites few cs k d h right =
       | inr le ↦ absurd (right k h (nowhere (get_or cs k d) (slice_get-get_or cs k d h) le))
     ]
 
-right_fit : (sites : ℕ) → sites ≤ most_in First → (cs : List Item) → All IsContainer cs → AreRight sites cs → All Fits cs
+right_fit : (sites : ℕ) → sites ≤ most_sites → (cs : List Item) → All IsContainer cs → AreRight sites cs → All Fits cs
 right_fit sites few cs declared right k d h = (declared k d h, site_fits sites few cs k d h right)
 
 -- no word is that of two kinds
@@ -103,7 +102,7 @@ is_catalog sites tolerated value values front catalog e is n of_sites of_tolerat
 }
 
 -- the value behind a right front spells no container
-pub none_behind : (sites : ℕ) → sites ≤ most_in First → (value : Data) (values : List Data) (front : List Item)
+pub none_behind : (sites : ℕ) → sites ≤ most_sites → (value : Data) (values : List Data) (front : List Item)
     → value ≡ list values → IsFront values front
     → AreRight sites front → length front ≢ length values
     → IsItem Containers (HaveContainers sites) value (Containers (length front))

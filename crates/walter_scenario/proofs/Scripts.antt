@@ -8,7 +8,7 @@ use Rattle.serde_json.specs.Data.{Data, string}
 use Rattle.walter_scenario.specs.declared.place.Place.{Place}
 use Rattle.walter_scenario.specs.declared.scenario.Arm.{Arm}
 use Rattle.walter_scenario.specs.declared.scenario.Step.{Step}
-use Rattle.walter_scenario.specs.declared.scenario.Step.TheVariants.{Call, Deliver, Advance, Tick, Stop, Restart, Pump, Arm as Armed}
+use Rattle.walter_scenario.specs.declared.scenario.Step.TheVariants.{Call, Deliver, Advance, Tick, Upgrade, Stop, Restart, Pump, Arm as Armed}
 use Rattle.walter_scenario.specs.Faults.{IsItem}
 use Rattle.walter_scenario.specs.Parts.{whole, list, arm_items, arm_spelled, step_spelled, IsArm, IsStep, AreSpelled, AreArms, AreSteps}
 use Rattle.walter_scenario.proofs.Spelling.{one_more, no_more, same_items}
@@ -71,6 +71,7 @@ word_of (Call client) = codes "call"
 word_of (Deliver to from nth) = codes "deliver"
 word_of (Advance at from) = codes "advance"
 word_of (Tick site) = codes "tick"
+word_of (Upgrade site) = codes "upgrade"
 word_of (Stop site) = codes "stop"
 word_of (Restart site) = codes "restart"
 word_of (Pump site) = codes "pump"
@@ -81,6 +82,7 @@ values_of (Call client) = whole client ∷ []
 values_of (Deliver to from nth) = whole to.0 ∷ whole from.0 ∷ whole nth ∷ []
 values_of (Advance at from) = whole at.0 ∷ whole from.0 ∷ []
 values_of (Tick site) = whole site.0 ∷ []
+values_of (Upgrade site) = whole site.0 ∷ []
 values_of (Stop site) = whole site.0 ∷ []
 values_of (Restart site) = whole site.0 ∷ []
 values_of (Pump site) = whole site.0 ∷ []
@@ -91,6 +93,7 @@ step_parts (Call client) = refl
 step_parts (Deliver to from nth) = refl
 step_parts (Advance at from) = refl
 step_parts (Tick site) = refl
+step_parts (Upgrade site) = refl
 step_parts (Stop site) = refl
 step_parts (Restart site) = refl
 step_parts (Pump site) = refl
@@ -114,6 +117,7 @@ same_step_at (Advance a b) (Advance c d) word e =
     let from : b.0 ≡ d.0 = cc in
     λ i. Advance (record { 0 = at i }) (record { 0 = from i })
 same_step_at (Tick m) (Tick n) word e = let same : m.0 ≡ n.0 = cc in (λ i. Tick (record { 0 = same i }))
+same_step_at (Upgrade m) (Upgrade n) word e = let same : m.0 ≡ n.0 = cc in (λ i. Upgrade (record { 0 = same i }))
 same_step_at (Stop m) (Stop n) word e = let same : m.0 ≡ n.0 = cc in (λ i. Stop (record { 0 = same i }))
 same_step_at (Restart m) (Restart n) word e = let same : m.0 ≡ n.0 = cc in (λ i. Restart (record { 0 = same i }))
 same_step_at (Pump m) (Pump n) word e = let same : m.0 ≡ n.0 = cc in (λ i. Pump (record { 0 = same i }))

@@ -4,19 +4,20 @@ use Rattle.std.proofs.lemmas.Bool.{cases_lt}
 use Rattle.serde_json.specs.Data.{Data, Members}
 use Rattle.serde_json.specs.Find.{get_member}
 use Rattle.walter_base.specs.Catalogs.{Item}
+use Rattle.walter_base.specs.declared.format.Format.{Format}
 use Rattle.walter_link.specs.declared.chooser.Link.{Link}
 use Rattle.walter_scenario.specs.declared.place.Place.{Place}
-use Rattle.walter_scenario.specs.declared.place.Place.TheVariants.{TooLong, Json, Key, Sites, F, Containers, Clients, Capacity, Areas, Room, Link as AtLink, Ticks, Threads, Arms, Steps}
+use Rattle.walter_scenario.specs.declared.place.Place.TheVariants.{TooLong, Json, Key, Sites, F, Containers, Clients, Capacity, Areas, Room, Format as AtFormat, Link as AtLink, Ticks, Threads, Arms, Steps}
 use Rattle.walter_scenario.specs.declared.scenario.Arm.{Arm}
 use Rattle.walter_scenario.specs.declared.scenario.Client.{Client}
 use Rattle.walter_scenario.specs.declared.scenario.Scenario.{Scenario}
 use Rattle.walter_scenario.specs.Faults.{HaveContainers, HaveClients, HaveArms, HaveSteps}
 use Rattle.walter_scenario.specs.Parts.{whole, list, HasMember, arm_spelled, step_spelled, IsArm, IsStep, IsWrongAt}
-use Rattle.walter_scenario.specs.Scenarios.{AreKeys, GivesCapacity, GivesAreas, GivesRoom, GivesLink, GivesTicks, GivesThreads, GivesArms, IsWithinLimit, IsJsonObject, HasKeys, HasSites, HasTolerated, HasContainers, HasClients, HasCapacity, HasAreas, HasRoom, HasLink, HasTicks, HasThreads, HasArms, IsReading, IsRefusedAt}
+use Rattle.walter_scenario.specs.Scenarios.{AreKeys, GivesCapacity, GivesAreas, GivesRoom, GivesFormat, GivesLink, GivesTicks, GivesThreads, GivesArms, IsWithinLimit, IsJsonObject, HasKeys, HasSites, HasTolerated, HasContainers, HasClients, HasCapacity, HasAreas, HasRoom, HasFormat, HasLink, HasTicks, HasThreads, HasArms, IsReading, IsRefusedAt}
 use Rattle.walter_scenario.proofs.Declared.{containers_closed}
 use Rattle.walter_scenario.proofs.Scripts.{items_closed}
 use Rattle.walter_scenario.proofs.Sent.{clients_closed}
-use Rattle.walter_scenario.proofs.Uniqueness.{one_object, one_value, containers_object, clients_object, capacity_object, areas_object, room_object, link_object, ticks_object, threads_object, arms_object, one_of_sites, one_of_clients, one_capacity}
+use Rattle.walter_scenario.proofs.Uniqueness.{one_object, one_value, containers_object, clients_object, capacity_object, areas_object, room_object, format_object, link_object, ticks_object, threads_object, arms_object, one_of_sites, one_of_clients, one_capacity}
 use Rattle.walter_scenario.proofs.Wrong.{right_nowhere, one_place}
 
 -- the bytes are right in so many stages
@@ -46,25 +47,30 @@ Passed (suc (suc (suc (suc (suc (suc (suc (suc (suc (suc zero)))))))))) bytes =
     × HasRoom bytes members sites tolerated declared clients capacity areas room
 Passed (suc (suc (suc (suc (suc (suc (suc (suc (suc (suc (suc zero))))))))))) bytes =
     (members : Members) × (sites : ℕ) × (tolerated : ℕ) × (declared : List Item) × (clients : List Client)
-    × (capacity : ℕ) × (areas : ℕ) × (room : ℕ) × (link : Link)
-    × HasLink bytes members sites tolerated declared clients capacity areas room link
+    × (capacity : ℕ) × (areas : ℕ) × (room : ℕ) × (format : Format)
+    × HasFormat bytes members sites tolerated declared clients capacity areas room format
 Passed (suc (suc (suc (suc (suc (suc (suc (suc (suc (suc (suc (suc zero)))))))))))) bytes =
     (members : Members) × (sites : ℕ) × (tolerated : ℕ) × (declared : List Item) × (clients : List Client)
-    × (capacity : ℕ) × (areas : ℕ) × (room : ℕ) × (link : Link) × (ticks : ℕ)
-    × HasTicks bytes members sites tolerated declared clients capacity areas room link ticks
+    × (capacity : ℕ) × (areas : ℕ) × (room : ℕ) × (format : Format) × (link : Link)
+    × HasLink bytes members sites tolerated declared clients capacity areas room format link
 Passed (suc (suc (suc (suc (suc (suc (suc (suc (suc (suc (suc (suc (suc zero))))))))))))) bytes =
     (members : Members) × (sites : ℕ) × (tolerated : ℕ) × (declared : List Item) × (clients : List Client)
-    × (capacity : ℕ) × (areas : ℕ) × (room : ℕ) × (link : Link) × (ticks : ℕ) × (threads : ℕ)
-    × HasThreads bytes members sites tolerated declared clients capacity areas room link ticks threads
+    × (capacity : ℕ) × (areas : ℕ) × (room : ℕ) × (format : Format) × (link : Link) × (ticks : ℕ)
+    × HasTicks bytes members sites tolerated declared clients capacity areas room format link ticks
 Passed (suc (suc (suc (suc (suc (suc (suc (suc (suc (suc (suc (suc (suc (suc zero)))))))))))))) bytes =
     (members : Members) × (sites : ℕ) × (tolerated : ℕ) × (declared : List Item) × (clients : List Client)
-    × (capacity : ℕ) × (areas : ℕ) × (room : ℕ) × (link : Link) × (ticks : ℕ) × (threads : ℕ) × (arms : List Arm)
-    × HasArms bytes members sites tolerated declared clients capacity areas room link ticks threads arms
-Passed (suc (suc (suc (suc (suc (suc (suc (suc (suc (suc (suc (suc (suc (suc (suc n))))))))))))))) bytes =
+    × (capacity : ℕ) × (areas : ℕ) × (room : ℕ) × (format : Format) × (link : Link) × (ticks : ℕ) × (threads : ℕ)
+    × HasThreads bytes members sites tolerated declared clients capacity areas room format link ticks threads
+Passed (suc (suc (suc (suc (suc (suc (suc (suc (suc (suc (suc (suc (suc (suc (suc zero))))))))))))))) bytes =
     (members : Members) × (sites : ℕ) × (tolerated : ℕ) × (declared : List Item) × (clients : List Client)
-    × (capacity : ℕ) × (areas : ℕ) × (room : ℕ) × (link : Link) × (ticks : ℕ) × (threads : ℕ) × (arms : List Arm)
-    × (values : List Data)
-    × HasArms bytes members sites tolerated declared clients capacity areas room link ticks threads arms
+    × (capacity : ℕ) × (areas : ℕ) × (room : ℕ) × (format : Format) × (link : Link) × (ticks : ℕ) × (threads : ℕ)
+    × (arms : List Arm)
+    × HasArms bytes members sites tolerated declared clients capacity areas room format link ticks threads arms
+Passed (suc (suc (suc (suc (suc (suc (suc (suc (suc (suc (suc (suc (suc (suc (suc (suc n)))))))))))))))) bytes =
+    (members : Members) × (sites : ℕ) × (tolerated : ℕ) × (declared : List Item) × (clients : List Client)
+    × (capacity : ℕ) × (areas : ℕ) × (room : ℕ) × (format : Format) × (link : Link) × (ticks : ℕ) × (threads : ℕ)
+    × (arms : List Arm) × (values : List Data)
+    × HasArms bytes members sites tolerated declared clients capacity areas room format link ticks threads arms
     × HasMember members (codes "steps") (list values) × HaveSteps sites (length clients) values
 
 -- the number of stages before the place's
@@ -79,11 +85,12 @@ stage (Clients place) = 6
 stage Capacity = 7
 stage Areas = 8
 stage Room = 9
-stage AtLink = 10
-stage Ticks = 11
-stage Threads = 12
-stage (Arms place) = 13
-stage (Steps place) = 14
+stage AtFormat = 10
+stage AtLink = 11
+stage Ticks = 12
+stage Threads = 13
+stage (Arms place) = 14
+stage (Steps place) = 15
 
 one_less : (bytes : List ℕ) (n : ℕ) → Passed (suc n) bytes → Passed n bytes
 one_less bytes zero p = tt
@@ -93,21 +100,25 @@ one_less bytes (suc (suc (suc zero))) p = (p.0, p.2.has_keys)
 one_less bytes (suc (suc (suc (suc zero)))) p = (p.0, p.1, p.3.has_sites)
 one_less bytes (suc (suc (suc (suc (suc zero))))) p = (p.0, p.1, p.2, p.4.has_tolerated)
 one_less bytes (suc (suc (suc (suc (suc (suc zero)))))) p = (p.0, p.1, p.2, p.3, p.5.has_containers)
-one_less bytes (suc (suc (suc (suc (suc (suc (suc zero))))))) p = (p.0, p.1, p.2, p.3, p.4, p.6.has_clients)
-one_less bytes (suc (suc (suc (suc (suc (suc (suc (suc zero)))))))) p = (p.0, p.1, p.2, p.3, p.4, p.5, p.7.has_capacity)
+one_less bytes (suc (suc (suc (suc (suc (suc (suc zero))))))) p =
+    (p.0, p.1, p.2, p.3, p.4, p.6.has_clients)
+one_less bytes (suc (suc (suc (suc (suc (suc (suc (suc zero)))))))) p =
+    (p.0, p.1, p.2, p.3, p.4, p.5, p.7.has_capacity)
 one_less bytes (suc (suc (suc (suc (suc (suc (suc (suc (suc zero))))))))) p =
     (p.0, p.1, p.2, p.3, p.4, p.5, p.6, p.8.has_areas)
 one_less bytes (suc (suc (suc (suc (suc (suc (suc (suc (suc (suc zero)))))))))) p =
     (p.0, p.1, p.2, p.3, p.4, p.5, p.6, p.7, p.9.has_room)
 one_less bytes (suc (suc (suc (suc (suc (suc (suc (suc (suc (suc (suc zero))))))))))) p =
-    (p.0, p.1, p.2, p.3, p.4, p.5, p.6, p.7, p.8, p.10.has_link)
+    (p.0, p.1, p.2, p.3, p.4, p.5, p.6, p.7, p.8, p.10.has_format)
 one_less bytes (suc (suc (suc (suc (suc (suc (suc (suc (suc (suc (suc (suc zero)))))))))))) p =
-    (p.0, p.1, p.2, p.3, p.4, p.5, p.6, p.7, p.8, p.9, p.11.has_ticks)
+    (p.0, p.1, p.2, p.3, p.4, p.5, p.6, p.7, p.8, p.9, p.11.has_link)
 one_less bytes (suc (suc (suc (suc (suc (suc (suc (suc (suc (suc (suc (suc (suc zero))))))))))))) p =
-    (p.0, p.1, p.2, p.3, p.4, p.5, p.6, p.7, p.8, p.9, p.10, p.12.has_threads)
+    (p.0, p.1, p.2, p.3, p.4, p.5, p.6, p.7, p.8, p.9, p.10, p.12.has_ticks)
 one_less bytes (suc (suc (suc (suc (suc (suc (suc (suc (suc (suc (suc (suc (suc (suc zero)))))))))))))) p =
-    (p.0, p.1, p.2, p.3, p.4, p.5, p.6, p.7, p.8, p.9, p.10, p.11, p.13)
-one_less bytes (suc (suc (suc (suc (suc (suc (suc (suc (suc (suc (suc (suc (suc (suc (suc n))))))))))))))) p = p
+    (p.0, p.1, p.2, p.3, p.4, p.5, p.6, p.7, p.8, p.9, p.10, p.11, p.13.has_threads)
+one_less bytes (suc (suc (suc (suc (suc (suc (suc (suc (suc (suc (suc (suc (suc (suc (suc zero))))))))))))))) p =
+    (p.0, p.1, p.2, p.3, p.4, p.5, p.6, p.7, p.8, p.9, p.10, p.11, p.12, p.14)
+one_less bytes (suc (suc (suc (suc (suc (suc (suc (suc (suc (suc (suc (suc (suc (suc (suc (suc n)))))))))))))))) p = p
 
 fewer : (bytes : List ℕ) (m n : ℕ) → m ≤ n → Passed n bytes → Passed m bytes
 fewer bytes m zero h p = let same : 0 ≡ m = omega arith in subst (λ k. Passed k bytes) same p
@@ -129,11 +140,12 @@ reached bytes (Clients place) is = (is.0, is.1, is.2, is.3, is.5)
 reached bytes Capacity is = (is.0, is.1, is.2, is.3, is.4, is.5)
 reached bytes Areas is = (is.0, is.1, is.2, is.3, is.4, is.5, is.6)
 reached bytes Room is = (is.0, is.1, is.2, is.3, is.4, is.5, is.6, is.7)
-reached bytes AtLink is = (is.0, is.1, is.2, is.3, is.4, is.5, is.6, is.7, is.8)
-reached bytes Ticks is = (is.0, is.1, is.2, is.3, is.4, is.5, is.6, is.7, is.8, is.9)
-reached bytes Threads is = (is.0, is.1, is.2, is.3, is.4, is.5, is.6, is.7, is.8, is.9, is.10)
-reached bytes (Arms place) is = (is.0, is.1, is.2, is.3, is.4, is.5, is.6, is.7, is.8, is.9, is.10, is.12)
-reached bytes (Steps place) is = (is.0, is.1, is.2, is.3, is.4, is.5, is.6, is.7, is.8, is.9, is.10, is.11, is.13)
+reached bytes AtFormat is = (is.0, is.1, is.2, is.3, is.4, is.5, is.6, is.7, is.8)
+reached bytes AtLink is = (is.0, is.1, is.2, is.3, is.4, is.5, is.6, is.7, is.8, is.9)
+reached bytes Ticks is = (is.0, is.1, is.2, is.3, is.4, is.5, is.6, is.7, is.8, is.9, is.10)
+reached bytes Threads is = (is.0, is.1, is.2, is.3, is.4, is.5, is.6, is.7, is.8, is.9, is.10, is.11)
+reached bytes (Arms place) is = (is.0, is.1, is.2, is.3, is.4, is.5, is.6, is.7, is.8, is.9, is.10, is.11, is.13)
+reached bytes (Steps place) is = (is.0, is.1, is.2, is.3, is.4, is.5, is.6, is.7, is.8, is.9, is.10, is.11, is.12, is.14)
 
 arms_closed : (sites n : ℕ) (values : List Data) → HaveArms sites values → HaveArms sites (take n values)
 arms_closed sites n values have = items_closed arm_spelled (IsArm sites) n values have
@@ -194,49 +206,60 @@ stopped bytes Room is p =
     one_object bytes p.0 is.0 (room_object bytes p.0 p.1 p.2 p.3 p.4 p.5 p.6 p.7 p.8)
     (areas_object bytes is.0 is.1 is.2 is.3 is.4 is.5 is.6 is.7) in
     is.8 p.7 (subst (λ ms. GivesRoom (get_member (codes "room") ms) p.7) same p.8.given)
+stopped bytes AtFormat is p =
+    let same =
+    one_object bytes p.0 is.0 (format_object bytes p.0 p.1 p.2 p.3 p.4 p.5 p.6 p.7 p.8 p.9)
+    (room_object bytes is.0 is.1 is.2 is.3 is.4 is.5 is.6 is.7 is.8) in
+    let in_p = p.9.has_room.has_areas.has_capacity.has_clients in
+    let in_is = is.8.has_areas.has_capacity.has_clients in
+    let sites =
+    one_of_sites bytes p.0 is.0 p.1 is.1 (sites_of_clients bytes p.0 p.1 p.2 p.3 p.4 in_p)
+    (sites_of_clients bytes is.0 is.1 is.2 is.3 is.4 in_is) in
+    let given = subst (λ n. GivesFormat (get_member (codes "format") p.0) n p.8) sites p.9.given in
+    is.9 p.8 (subst (λ ms. GivesFormat (get_member (codes "format") ms) is.1 p.8) same given)
 stopped bytes AtLink is p =
     let same =
-    one_object bytes p.0 is.0 (link_object bytes p.0 p.1 p.2 p.3 p.4 p.5 p.6 p.7 p.8 p.9)
-    (room_object bytes is.0 is.1 is.2 is.3 is.4 is.5 is.6 is.7 is.8) in
-    is.9 p.8 (subst (λ ms. GivesLink (get_member (codes "link") ms) p.8) same p.9.given)
+    one_object bytes p.0 is.0 (link_object bytes p.0 p.1 p.2 p.3 p.4 p.5 p.6 p.7 p.8 p.9 p.10)
+    (format_object bytes is.0 is.1 is.2 is.3 is.4 is.5 is.6 is.7 is.8 is.9) in
+    is.10 p.9 (subst (λ ms. GivesLink (get_member (codes "link") ms) p.9) same p.10.given)
 stopped bytes Ticks is p =
     let same =
-    one_object bytes p.0 is.0 (ticks_object bytes p.0 p.1 p.2 p.3 p.4 p.5 p.6 p.7 p.8 p.9 p.10)
-    (link_object bytes is.0 is.1 is.2 is.3 is.4 is.5 is.6 is.7 is.8 is.9) in
-    is.10 p.9 (subst (λ ms. GivesTicks (get_member (codes "ticks") ms) p.9) same p.10.given)
+    one_object bytes p.0 is.0 (ticks_object bytes p.0 p.1 p.2 p.3 p.4 p.5 p.6 p.7 p.8 p.9 p.10 p.11)
+    (link_object bytes is.0 is.1 is.2 is.3 is.4 is.5 is.6 is.7 is.8 is.9 is.10) in
+    is.11 p.10 (subst (λ ms. GivesTicks (get_member (codes "ticks") ms) p.10) same p.11.given)
 stopped bytes Threads is p =
     let same =
-    one_object bytes p.0 is.0 (threads_object bytes p.0 p.1 p.2 p.3 p.4 p.5 p.6 p.7 p.8 p.9 p.10 p.11)
-    (ticks_object bytes is.0 is.1 is.2 is.3 is.4 is.5 is.6 is.7 is.8 is.9 is.10) in
-    is.11 p.10 (subst (λ ms. GivesThreads (get_member (codes "threads") ms) p.10) same p.11.given)
+    one_object bytes p.0 is.0 (threads_object bytes p.0 p.1 p.2 p.3 p.4 p.5 p.6 p.7 p.8 p.9 p.10 p.11 p.12)
+    (ticks_object bytes is.0 is.1 is.2 is.3 is.4 is.5 is.6 is.7 is.8 is.9 is.10 is.11) in
+    is.12 p.11 (subst (λ ms. GivesThreads (get_member (codes "threads") ms) p.11) same p.12.given)
 stopped bytes (Arms place) is p =
     let same =
-    one_object bytes p.0 is.0 (arms_object bytes p.0 p.1 p.2 p.3 p.4 p.5 p.6 p.7 p.8 p.9 p.10 p.11 p.12)
-    (threads_object bytes is.0 is.1 is.2 is.3 is.4 is.5 is.6 is.7 is.8 is.9 is.10 is.12) in
-    let in_p = p.12.has_threads.has_ticks.has_link.has_room.has_areas.has_capacity.has_clients in
-    let in_is = is.12.has_ticks.has_link.has_room.has_areas.has_capacity.has_clients in
+    one_object bytes p.0 is.0 (arms_object bytes p.0 p.1 p.2 p.3 p.4 p.5 p.6 p.7 p.8 p.9 p.10 p.11 p.12 p.13)
+    (threads_object bytes is.0 is.1 is.2 is.3 is.4 is.5 is.6 is.7 is.8 is.9 is.10 is.11 is.13) in
+    let in_p = p.13.has_threads.has_ticks.has_link.has_format.has_room.has_areas.has_capacity.has_clients in
+    let in_is = is.13.has_ticks.has_link.has_format.has_room.has_areas.has_capacity.has_clients in
     let sites =
     one_of_sites bytes p.0 is.0 p.1 is.1 (sites_of_clients bytes p.0 p.1 p.2 p.3 p.4 in_p)
     (sites_of_clients bytes is.0 is.1 is.2 is.3 is.4 in_is) in
-    let given = subst (λ g. GivesArms p.1 g p.11) (ap (λ ms. get_member (codes "arms") ms) same ∙ is.13) p.12.given in
-    right_nowhere (HaveArms is.1) (arms_closed is.1) is.11 given.0 place given.1
-    (subst (λ n. HaveArms n given.0) sites (p.11, given.2)) is.14
+    let given = subst (λ g. GivesArms p.1 g p.12) (ap (λ ms. get_member (codes "arms") ms) same ∙ is.14) p.13.given in
+    right_nowhere (HaveArms is.1) (arms_closed is.1) is.12 given.0 place given.1
+    (subst (λ n. HaveArms n given.0) sites (p.12, given.2)) is.15
 stopped bytes (Steps place) is p =
     let same =
-    one_object bytes is.0 p.0 (arms_object bytes is.0 is.1 is.2 is.3 is.4 is.5 is.6 is.7 is.8 is.9 is.10 is.11 is.13)
-    (arms_object bytes p.0 p.1 p.2 p.3 p.4 p.5 p.6 p.7 p.8 p.9 p.10 p.11 p.13) in
-    let in_p = p.13.has_threads.has_ticks.has_link.has_room.has_areas.has_capacity.has_clients in
-    let in_is = is.13.has_threads.has_ticks.has_link.has_room.has_areas.has_capacity.has_clients in
+    one_object bytes is.0 p.0 (arms_object bytes is.0 is.1 is.2 is.3 is.4 is.5 is.6 is.7 is.8 is.9 is.10 is.11 is.12 is.14)
+    (arms_object bytes p.0 p.1 p.2 p.3 p.4 p.5 p.6 p.7 p.8 p.9 p.10 p.11 p.12 p.14) in
+    let in_p = p.14.has_threads.has_ticks.has_link.has_format.has_room.has_areas.has_capacity.has_clients in
+    let in_is = is.14.has_threads.has_ticks.has_link.has_format.has_room.has_areas.has_capacity.has_clients in
     let sites =
     one_of_sites bytes p.0 is.0 p.1 is.1 (sites_of_clients bytes p.0 p.1 p.2 p.3 p.4 in_p)
     (sites_of_clients bytes is.0 is.1 is.2 is.3 is.4 in_is) in
-    let value = one_value (codes "steps") is.0 p.0 is.12 (list p.12) same is.14 p.14 in
+    let value = one_value (codes "steps") is.0 p.0 is.13 (list p.13) same is.15 p.15 in
     let clients = one_of_clients bytes p.0 is.0 p.1 is.1 p.2 is.2 p.3 is.3 p.4 is.4 in_p in_is in
-    right_nowhere (HaveSteps is.1 (length is.4)) (steps_closed is.1 (length is.4)) is.12 p.12 place value
-    (subst (λ n. HaveSteps n (length is.4) p.12) sites (subst (λ cs. HaveSteps p.1 (length cs) p.12) clients p.15))
-    is.15
+    right_nowhere (HaveSteps is.1 (length is.4)) (steps_closed is.1 (length is.4)) is.13 p.13 place value
+    (subst (λ n. HaveSteps n (length is.4) p.13) sites (subst (λ cs. HaveSteps p.1 (length cs) p.13) clients p.16))
+    is.16
 
-few : (place : Place) → stage place < 15
+few : (place : Place) → stage place < 16
 few TooLong = omega arith
 few Json = omega arith
 few Key = omega arith
@@ -247,6 +270,7 @@ few (Clients place) = omega arith
 few Capacity = omega arith
 few Areas = omega arith
 few Room = omega arith
+few AtFormat = omega arith
 few AtLink = omega arith
 few Ticks = omega arith
 few Threads = omega arith
@@ -257,7 +281,7 @@ few (Steps place) = omega arith
 pub read_nowhere_refused : (bytes : List ℕ) (s : Scenario) (place : Place) → IsReading bytes s
     → ¬ IsRefusedAt bytes place
 read_nowhere_refused bytes s place is refused =
-    let all : Passed 15 bytes = (
+    let all : Passed 16 bytes = (
       is.members,
       s.catalog.sites,
       s.catalog.tolerated,
@@ -266,6 +290,7 @@ read_nowhere_refused bytes s place is refused =
       s.capacity,
       s.areas,
       s.room,
+      s.format,
       s.link,
       s.ticks,
       s.threads,
@@ -275,7 +300,7 @@ read_nowhere_refused bytes s place is refused =
       is.spelled,
       (s.steps, is.are),
     ) in
-    stopped bytes place refused (fewer bytes (suc (stage place)) 15 (omega (arith, few place)) all)
+    stopped bytes place refused (fewer bytes (suc (stage place)) 16 (omega (arith, few place)) all)
 
 not_before : (bytes : List ℕ) (place other : Place) → IsRefusedAt bytes place → IsRefusedAt bytes other
     → ¬ (stage place < stage other)
@@ -308,37 +333,38 @@ same_place bytes (Clients m) (Clients n) e a b =
 same_place bytes Capacity Capacity e a b = refl
 same_place bytes Areas Areas e a b = refl
 same_place bytes Room Room e a b = refl
+same_place bytes AtFormat AtFormat e a b = refl
 same_place bytes AtLink AtLink e a b = refl
 same_place bytes Ticks Ticks e a b = refl
 same_place bytes Threads Threads e a b = refl
 same_place bytes (Arms m) (Arms n) e a b =
-    let in_a = a.12.has_ticks.has_link.has_room.has_areas.has_capacity.has_clients in
-    let in_b = b.12.has_ticks.has_link.has_room.has_areas.has_capacity.has_clients in
+    let in_a = a.13.has_ticks.has_link.has_format.has_room.has_areas.has_capacity.has_clients in
+    let in_b = b.13.has_ticks.has_link.has_format.has_room.has_areas.has_capacity.has_clients in
     let same =
     one_object bytes a.0 b.0 (clients_object bytes a.0 a.1 a.2 a.3 a.4 in_a)
     (clients_object bytes b.0 b.1 b.2 b.3 b.4 in_b) in
     let sites =
     one_of_sites bytes a.0 b.0 a.1 b.1 (sites_of_clients bytes a.0 a.1 a.2 a.3 a.4 in_a)
     (sites_of_clients bytes b.0 b.1 b.2 b.3 b.4 in_b) in
-    let value = one_value (codes "arms") a.0 b.0 a.11 b.11 same a.13 b.13 in
-    let wrong = subst (λ v. IsWrongAt (HaveArms a.1) v m) value a.14 in
-    ap Arms (one_place (HaveArms b.1) (arms_closed b.1) b.11 m n
-    (subst (λ k. IsWrongAt (HaveArms k) b.11 m) sites wrong) b.14)
+    let value = one_value (codes "arms") a.0 b.0 a.12 b.12 same a.14 b.14 in
+    let wrong = subst (λ v. IsWrongAt (HaveArms a.1) v m) value a.15 in
+    ap Arms (one_place (HaveArms b.1) (arms_closed b.1) b.12 m n
+    (subst (λ k. IsWrongAt (HaveArms k) b.12 m) sites wrong) b.15)
 same_place bytes (Steps m) (Steps n) e a b =
-    let in_a = a.13.has_threads.has_ticks.has_link.has_room.has_areas.has_capacity.has_clients in
-    let in_b = b.13.has_threads.has_ticks.has_link.has_room.has_areas.has_capacity.has_clients in
+    let in_a = a.14.has_threads.has_ticks.has_link.has_format.has_room.has_areas.has_capacity.has_clients in
+    let in_b = b.14.has_threads.has_ticks.has_link.has_format.has_room.has_areas.has_capacity.has_clients in
     let same =
-    one_object bytes a.0 b.0 (arms_object bytes a.0 a.1 a.2 a.3 a.4 a.5 a.6 a.7 a.8 a.9 a.10 a.11 a.13)
-    (arms_object bytes b.0 b.1 b.2 b.3 b.4 b.5 b.6 b.7 b.8 b.9 b.10 b.11 b.13) in
+    one_object bytes a.0 b.0 (arms_object bytes a.0 a.1 a.2 a.3 a.4 a.5 a.6 a.7 a.8 a.9 a.10 a.11 a.12 a.14)
+    (arms_object bytes b.0 b.1 b.2 b.3 b.4 b.5 b.6 b.7 b.8 b.9 b.10 b.11 b.12 b.14) in
     let sites =
     one_of_sites bytes a.0 b.0 a.1 b.1 (sites_of_clients bytes a.0 a.1 a.2 a.3 a.4 in_a)
     (sites_of_clients bytes b.0 b.1 b.2 b.3 b.4 in_b) in
-    let value = one_value (codes "steps") a.0 b.0 a.12 b.12 same a.14 b.14 in
+    let value = one_value (codes "steps") a.0 b.0 a.13 b.13 same a.15 b.15 in
     let clients = one_of_clients bytes a.0 b.0 a.1 b.1 a.2 b.2 a.3 b.3 a.4 b.4 in_a in_b in
-    let wrong = subst (λ v. IsWrongAt (HaveSteps a.1 (length a.4)) v m) value a.15 in
-    let of_clients = subst (λ cs. IsWrongAt (HaveSteps a.1 (length cs)) b.12 m) clients wrong in
-    ap Steps (one_place (HaveSteps b.1 (length b.4)) (steps_closed b.1 (length b.4)) b.12 m n
-    (subst (λ k. IsWrongAt (HaveSteps k (length b.4)) b.12 m) sites of_clients) b.15)
+    let wrong = subst (λ v. IsWrongAt (HaveSteps a.1 (length a.4)) v m) value a.16 in
+    let of_clients = subst (λ cs. IsWrongAt (HaveSteps a.1 (length cs)) b.13 m) clients wrong in
+    ap Steps (one_place (HaveSteps b.1 (length b.4)) (steps_closed b.1 (length b.4)) b.13 m n
+    (subst (λ k. IsWrongAt (HaveSteps k (length b.4)) b.13 m) sites of_clients) b.16)
 same_place bytes place other e a b = absurd (omega (arith, e))
 
 -- bytes are refused at one place

@@ -1,15 +1,17 @@
 -- What bytes spell is one thing, part by part.
-use Rattle.std.proofs.Common.{◌≡◌, ℕ, List, length, codes, Option, Some, None, refl, sym, ap, ◌∙◌, subst}
+use Rattle.std.proofs.Common.{◌≡◌, ℕ, List, length, codes, Option, Some, None, refl, sym, ap, ◌∙◌, subst, arith}
 use Rattle.std.proofs.lemmas.Option.{same_Some}
 use Rattle.serde_json.specs.Data.{Data, Members, object}
 use Rattle.serde_json.specs.Find.{get_member}
 use Rattle.walter_base.specs.Catalogs.{Item, containers_of}
+use Rattle.walter_base.specs.declared.format.Format.{Format}
+use Rattle.walter_base.specs.declared.format.Format.TheVariants.{First, Second}
 use Rattle.walter_link.specs.declared.chooser.Link.{Link}
 use Rattle.walter_scenario.specs.declared.scenario.Arm.{Arm}
 use Rattle.walter_scenario.specs.declared.scenario.Client.{Client}
 use Rattle.walter_scenario.specs.declared.scenario.Scenario.{Scenario}
 use Rattle.walter_scenario.specs.Parts.{whole, list, HasMember, SpellClients, SpellLink, AreArms, AreSteps}
-use Rattle.walter_scenario.specs.Scenarios.{IsJsonObject, GivesCapacity, GivesAreas, GivesRoom, GivesLink, GivesTicks, GivesThreads, GivesArms, HasSites, HasTolerated, HasContainers, HasClients, HasCapacity, HasAreas, HasRoom, HasLink, HasTicks, HasThreads, HasArms, IsReading}
+use Rattle.walter_scenario.specs.Scenarios.{IsJsonObject, GivesCapacity, GivesAreas, GivesRoom, TellsFormat, GivesFormat, GivesLink, GivesTicks, GivesThreads, GivesArms, HasSites, HasTolerated, HasContainers, HasClients, HasCapacity, HasAreas, HasRoom, HasFormat, HasLink, HasTicks, HasThreads, HasArms, IsReading}
 use Rattle.walter_scenario.proofs.Declared.{same_declared}
 use Rattle.walter_scenario.proofs.Scripts.{same_arms, same_steps}
 use Rattle.walter_scenario.proofs.Sent.{same_clients}
@@ -79,28 +81,35 @@ pub room_object : (bytes : List ℕ) (m : Members) (s f : ℕ) (ds : List Item) 
     (capacity areas room : ℕ) → HasRoom bytes m s f ds cs capacity areas room → IsJsonObject bytes m
 room_object bytes m s f ds cs capacity areas room has = areas_object bytes m s f ds cs capacity areas has.has_areas
 
-pub link_object : (bytes : List ℕ) (m : Members) (s f : ℕ) (ds : List Item) (cs : List Client)
-    (capacity areas room : ℕ) (link : Link) → HasLink bytes m s f ds cs capacity areas room link → IsJsonObject bytes m
-link_object bytes m s f ds cs capacity areas room link has =
+pub format_object : (bytes : List ℕ) (m : Members) (s f : ℕ) (ds : List Item) (cs : List Client)
+    (capacity areas room : ℕ) (format : Format) → HasFormat bytes m s f ds cs capacity areas room format
+    → IsJsonObject bytes m
+format_object bytes m s f ds cs capacity areas room format has =
     room_object bytes m s f ds cs capacity areas room has.has_room
 
-pub ticks_object : (bytes : List ℕ) (m : Members) (s f : ℕ) (ds : List Item) (cs : List Client)
-    (capacity areas room : ℕ) (link : Link) (ticks : ℕ) → HasTicks bytes m s f ds cs capacity areas room link ticks
+pub link_object : (bytes : List ℕ) (m : Members) (s f : ℕ) (ds : List Item) (cs : List Client)
+    (capacity areas room : ℕ) (format : Format) (link : Link) → HasLink bytes m s f ds cs capacity areas room format link
     → IsJsonObject bytes m
-ticks_object bytes m s f ds cs capacity areas room link ticks has =
-    link_object bytes m s f ds cs capacity areas room link has.has_link
+link_object bytes m s f ds cs capacity areas room format link has =
+    format_object bytes m s f ds cs capacity areas room format has.has_format
+
+pub ticks_object : (bytes : List ℕ) (m : Members) (s f : ℕ) (ds : List Item) (cs : List Client)
+    (capacity areas room : ℕ) (format : Format) (link : Link) (ticks : ℕ) → HasTicks bytes m s f ds cs capacity areas room format link ticks
+    → IsJsonObject bytes m
+ticks_object bytes m s f ds cs capacity areas room format link ticks has =
+    link_object bytes m s f ds cs capacity areas room format link has.has_link
 
 pub threads_object : (bytes : List ℕ) (m : Members) (s f : ℕ) (ds : List Item) (cs : List Client)
-    (capacity areas room : ℕ) (link : Link) (ticks threads : ℕ)
-    → HasThreads bytes m s f ds cs capacity areas room link ticks threads → IsJsonObject bytes m
-threads_object bytes m s f ds cs capacity areas room link ticks threads has =
-    ticks_object bytes m s f ds cs capacity areas room link ticks has.has_ticks
+    (capacity areas room : ℕ) (format : Format) (link : Link) (ticks threads : ℕ)
+    → HasThreads bytes m s f ds cs capacity areas room format link ticks threads → IsJsonObject bytes m
+threads_object bytes m s f ds cs capacity areas room format link ticks threads has =
+    ticks_object bytes m s f ds cs capacity areas room format link ticks has.has_ticks
 
 pub arms_object : (bytes : List ℕ) (m : Members) (s f : ℕ) (ds : List Item) (cs : List Client)
-    (capacity areas room : ℕ) (link : Link) (ticks threads : ℕ) (arms : List Arm)
-    → HasArms bytes m s f ds cs capacity areas room link ticks threads arms → IsJsonObject bytes m
-arms_object bytes m s f ds cs capacity areas room link ticks threads arms has =
-    threads_object bytes m s f ds cs capacity areas room link ticks threads has.has_threads
+    (capacity areas room : ℕ) (format : Format) (link : Link) (ticks threads : ℕ) (arms : List Arm)
+    → HasArms bytes m s f ds cs capacity areas room format link ticks threads arms → IsJsonObject bytes m
+arms_object bytes m s f ds cs capacity areas room format link ticks threads arms has =
+    threads_object bytes m s f ds cs capacity areas room format link ticks threads has.has_threads
 
 one_given_capacity : (given : Option Data) (c d : ℕ) → GivesCapacity given c → GivesCapacity given d → c ≡ d
 one_given_capacity None c d a b = a ∙ sym b
@@ -120,6 +129,21 @@ one_of_areas (Some value) capacity m n a b = let e : whole m ≡ whole n = sym a
 pub one_of_room : (given : Option Data) (m n : ℕ) → GivesRoom given m → GivesRoom given n → m ≡ n
 one_of_room None m n a b = a ∙ sym b
 one_of_room (Some value) m n a b = let e : whole m ≡ whole n = sym a.0 ∙ b.0 in cc
+
+one_told_format : (given : Option Data) (sites : ℕ) (a b : Format) → TellsFormat given sites a
+    → TellsFormat given sites b → a ≡ b
+one_told_format None sites First First a b = refl
+one_told_format None sites First Second a b = absurd (omega (arith, a, b))
+one_told_format None sites Second First a b = absurd (omega (arith, a, b))
+one_told_format None sites Second Second a b = refl
+one_told_format (Some value) sites First First a b = refl
+one_told_format (Some value) sites First Second a b = let e : whole 1 ≡ whole 2 = sym a ∙ b in cc
+one_told_format (Some value) sites Second First a b = let e : whole 2 ≡ whole 1 = sym a ∙ b in cc
+one_told_format (Some value) sites Second Second a b = refl
+
+pub one_of_format : (given : Option Data) (sites : ℕ) (a b : Format) → GivesFormat given sites a
+    → GivesFormat given sites b → a ≡ b
+one_of_format given sites a b s t = one_told_format given sites a b s.told t.told
 
 one_spelled_link : (m n : Members) (a b : Link) → m ≡ n → SpellLink m a → SpellLink n b → a ≡ b
 one_spelled_link m n a b same s t =
@@ -161,8 +185,10 @@ one_scenario bytes s t a b =
     let threads_t = b.has_arms.has_threads in
     let ticks_s = threads_s.has_ticks in
     let ticks_t = threads_t.has_ticks in
-    let room_s = ticks_s.has_link.has_room in
-    let room_t = ticks_t.has_link.has_room in
+    let format_s = ticks_s.has_link.has_format in
+    let format_t = ticks_t.has_link.has_format in
+    let room_s = format_s.has_room in
+    let room_t = format_t.has_room in
     let areas_s = room_s.has_areas in
     let areas_t = room_t.has_areas in
     let in_s = areas_s.has_capacity in
@@ -193,6 +219,10 @@ one_scenario bytes s t a b =
     let room =
     one_of_room (get_member (codes "room") b.members) s.room t.room
     (subst (λ ms. GivesRoom (get_member (codes "room") ms) s.room) same room_s.given) room_t.given in
+    let of_sites = subst (λ k. GivesFormat (get_member (codes "format") a.members) k s.format) sites format_s.given in
+    let format =
+    one_of_format (get_member (codes "format") b.members) n s.format t.format
+    (subst (λ ms. GivesFormat (get_member (codes "format") ms) n s.format) same of_sites) format_t.given in
     let link =
     one_link (get_member (codes "link") b.members) s.link t.link
     (subst (λ ms. GivesLink (get_member (codes "link") ms) s.link) same ticks_s.has_link.given)
@@ -219,6 +249,7 @@ one_scenario bytes s t a b =
       capacity = capacity i;
       areas = areas i;
       room = room i;
+      format = format i;
       link = link i;
       ticks = ticks i;
       threads = threads i;

@@ -12,7 +12,7 @@ use Rattle.walter_scenario.specs.declared.place.ReadFault.{ReadFault}
 use Rattle.walter_scenario.specs.declared.scenario.Scenario.{Scenario}
 use Rattle.walter_scenario.specs.declared.settings.Settings.{Settings}
 use Rattle.walter_scenario.specs.Parts.{HasMember}
-use Rattle.walter_scenario.specs.Scenarios.{GivesLink, GivesTicks, GivesThreads, HasKeys, HasRoom, IsReading, IsReadFault}
+use Rattle.walter_scenario.specs.Scenarios.{GivesLink, GivesTicks, GivesThreads, HasKeys, HasFormat, IsReading, IsReadFault}
 
 -- the data of a value that may be absent
 abbrev pub data_in : Option (Bor Value) → Option Data
@@ -27,6 +27,7 @@ pub record AreParts (members : Members) (parts : Parts) : Type 0 where
   pub capacity : get_member (codes "capacity") members ≡ data_in parts.capacity
   pub areas : get_member (codes "areas") members ≡ data_in parts.areas
   pub room : get_member (codes "room") members ≡ data_in parts.room
+  pub format : get_member (codes "format") members ≡ data_in parts.format
   pub link : get_member (codes "link") members ≡ data_in parts.link
   pub ticks : get_member (codes "ticks") members ≡ data_in parts.ticks
   pub threads : get_member (codes "threads") members ≡ data_in parts.threads
@@ -43,10 +44,11 @@ abbrev pub IsFaultOf : Parts → ReadFault → Type 0
 IsFaultOf parts fault =
     (bytes : List ℕ) (members : Members) → HasKeys bytes members → AreParts members parts → IsReadFault bytes fault
 
--- the bytes are right up to their room, and these are what they spell so far
+-- the bytes are right up to their format, and these are what they spell so far
 pub record HasGrounds (bytes : List ℕ) (members : Members) (g : Grounds) : Type 0 where
   pub declared : List Item
-  pub has_room : HasRoom bytes members g.catalog.sites g.catalog.tolerated declared g.clients g.capacity g.areas g.room
+  pub has_format : HasFormat bytes members g.catalog.sites g.catalog.tolerated declared g.clients g.capacity g.areas
+      g.room g.format
   pub containers : g.catalog.containers ≡ containers_of declared
 
 -- the grounds of all bytes whose object has these parts

@@ -4,6 +4,8 @@ use Rattle.hex.specs.Hex.{decode_of}
 use Rattle.serde_json.specs.Data.{Data, Members, no_members, member, number, string, array, unsigned}
 use Rattle.serde_json.specs.Find.{get_member}
 use Rattle.serde_json.specs.View.{items_of}
+use Rattle.walter_base.specs.declared.format.Format.{Format}
+use Rattle.walter_base.specs.declared.format.Format.TheVariants.{First, Second}
 use Rattle.walter_base.specs.declared.names.Kind.{Kind}
 use Rattle.walter_base.specs.declared.names.Kind.TheVariants.{Regular, Cset}
 use Rattle.walter_base.specs.Catalogs.{Item, AreRight}
@@ -11,7 +13,7 @@ use Rattle.walter_link.specs.declared.chooser.Link.{Link}
 use Rattle.walter_scenario.specs.declared.scenario.Arm.{Arm}
 use Rattle.walter_scenario.specs.declared.scenario.Client.{Client}
 use Rattle.walter_scenario.specs.declared.scenario.Step.{Step}
-use Rattle.walter_scenario.specs.declared.scenario.Step.TheVariants.{Call, Deliver, Advance, Tick, Stop, Restart, Pump, Arm as Armed}
+use Rattle.walter_scenario.specs.declared.scenario.Step.TheVariants.{Call, Deliver, Advance, Tick, Upgrade, Stop, Restart, Pump, Arm as Armed}
 
 -- a whole number
 abbrev pub whole : ℕ → Data
@@ -71,6 +73,11 @@ IsAreas areas capacity = (areas ≡ 1) ⊎ ((areas ≡ 2) × (47 ≤ capacity))
 abbrev pub IsRoom : ℕ → Type 0
 IsRoom n = n ≤ 100000
 
+-- the number of a format
+abbrev pub number_of_format : Format → ℕ
+number_of_format First = 1
+number_of_format Second = 2
+
 -- the keys of a link
 abbrev pub IsLinkKey : List ℕ → Type 0
 IsLinkKey key = (key ≡ codes "seed") ⊎ (key ≡ codes "lose") ⊎ (key ≡ codes "repeat") ⊎ (key ≡ codes "swap")
@@ -120,6 +127,7 @@ step_spelled (Call client) = list (string (codes "call") ∷ whole client ∷ []
 step_spelled (Deliver to from nth) = list (string (codes "deliver") ∷ whole to.0 ∷ whole from.0 ∷ whole nth ∷ [])
 step_spelled (Advance at from) = list (string (codes "advance") ∷ whole at.0 ∷ whole from.0 ∷ [])
 step_spelled (Tick site) = list (string (codes "tick") ∷ whole site.0 ∷ [])
+step_spelled (Upgrade site) = list (string (codes "upgrade") ∷ whole site.0 ∷ [])
 step_spelled (Stop site) = list (string (codes "stop") ∷ whole site.0 ∷ [])
 step_spelled (Restart site) = list (string (codes "restart") ∷ whole site.0 ∷ [])
 step_spelled (Pump site) = list (string (codes "pump") ∷ whole site.0 ∷ [])
@@ -137,6 +145,7 @@ IsStep sites clients (Call client) = client < clients
 IsStep sites clients (Deliver to from nth) = ArePeers sites to.0 from.0 × (1 ≤ nth) × (nth < 2 ^ 32)
 IsStep sites clients (Advance at from) = ArePeers sites at.0 from.0
 IsStep sites clients (Tick site) = site.0 < sites
+IsStep sites clients (Upgrade site) = site.0 < sites
 IsStep sites clients (Stop site) = site.0 < sites
 IsStep sites clients (Restart site) = site.0 < sites
 IsStep sites clients (Pump site) = site.0 < sites

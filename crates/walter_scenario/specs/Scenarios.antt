@@ -1,22 +1,24 @@
 -- The scenario that bytes spell, and the place of what is wrong with them: JSON as serde_json reads it, whose outermost
--- value is an object with twelve keys, of which seven may be absent (docs/FORMATS.md, "Scenarios").
+-- value is an object with thirteen keys, of which eight may be absent (docs/FORMATS.md, "Scenarios").
 use Rattle.std.specs.Prelude.{◌≡◌, ◌⊎◌, ◌≤◌, ◌<◌, ℕ, List, [], length, codes, Option, Some, None, IsSome, IsUtf8}
 use Rattle.serde_json.specs.Data.{Data, Members, no_members, member, object}
 use Rattle.serde_json.specs.Find.{get_member}
 use Rattle.serde_json.specs.Read.{read}
 use Rattle.walter_base.specs.Catalogs.{Item, containers_of}
-use Rattle.walter_base.specs.declared.format.Format.TheVariants.{First}
+use Rattle.walter_base.specs.declared.format.Format.{Format}
+use Rattle.walter_base.specs.declared.format.Format.TheVariants.{First, Second}
 use Rattle.walter_base.specs.Sizes.{most_in}
+use Rattle.walter_base.specs.Vectors.{most_sites}
 use Rattle.walter_link.specs.declared.chooser.Link.{Link}
 use Rattle.walter_scenario.specs.declared.place.Place.{Place}
-use Rattle.walter_scenario.specs.declared.place.Place.TheVariants.{TooLong, Json, Key, Sites, F, Containers, Clients, Capacity, Areas, Room, Link as AtLink, Ticks, Threads, Arms, Steps}
+use Rattle.walter_scenario.specs.declared.place.Place.TheVariants.{TooLong, Json, Key, Sites, F, Containers, Clients, Capacity, Areas, Room, Format as AtFormat, Link as AtLink, Ticks, Threads, Arms, Steps}
 use Rattle.walter_scenario.specs.declared.place.ReadFault.{ReadFault}
 use Rattle.walter_scenario.specs.declared.place.ReadFault.TheVariants.{Refused, NoMemory}
 use Rattle.walter_scenario.specs.declared.scenario.Arm.{Arm}
 use Rattle.walter_scenario.specs.declared.scenario.Client.{Client}
 use Rattle.walter_scenario.specs.declared.scenario.Scenario.{Scenario}
 use Rattle.walter_scenario.specs.declared.scenario.Step.{Step}
-use Rattle.walter_scenario.specs.Parts.{whole, list, HasMember, AreContainers, AreClients, IsCapacity, IsAreas, IsRoom, SpellLink, IsTicks, IsThreads, AreArms, AreSteps, IsWrongAt}
+use Rattle.walter_scenario.specs.Parts.{whole, list, HasMember, AreContainers, AreClients, IsCapacity, IsAreas, IsRoom, number_of_format, SpellLink, IsTicks, IsThreads, AreArms, AreSteps, IsWrongAt}
 
 -- the keys that a scenario needs
 abbrev pub IsNeeded : List ℕ → Type 0
@@ -24,11 +26,11 @@ IsNeeded key =
     (key ≡ codes "sites") ⊎ (key ≡ codes "f") ⊎ (key ≡ codes "containers") ⊎ (key ≡ codes "clients")
     ⊎ (key ≡ codes "steps")
 
--- those, and seven that may be absent
+-- those, and eight that may be absent
 abbrev pub IsKey : List ℕ → Type 0
 IsKey key =
-    IsNeeded key ⊎ (key ≡ codes "capacity") ⊎ (key ≡ codes "areas") ⊎ (key ≡ codes "room") ⊎ (key ≡ codes "link")
-    ⊎ (key ≡ codes "ticks") ⊎ (key ≡ codes "threads") ⊎ (key ≡ codes "arms")
+    IsNeeded key ⊎ (key ≡ codes "capacity") ⊎ (key ≡ codes "areas") ⊎ (key ≡ codes "room") ⊎ (key ≡ codes "format")
+    ⊎ (key ≡ codes "link") ⊎ (key ≡ codes "ticks") ⊎ (key ≡ codes "threads") ⊎ (key ≡ codes "arms")
 
 -- no other key is there
 abbrev pub AreKnown : Members → Type 0
@@ -56,6 +58,18 @@ GivesAreas (Some value) areas capacity = (value ≡ whole areas) × IsAreas area
 abbrev pub GivesRoom : Option Data → ℕ → Type 0
 GivesRoom None room = room ≡ 0
 GivesRoom (Some value) room = (value ≡ whole room) × IsRoom room
+
+-- the format that the value of its key tells; where the key is absent the first, if that has places for so many sites,
+-- and else the second
+abbrev pub TellsFormat : Option Data → (sites : ℕ) → Format → Type 0
+TellsFormat None sites First = sites ≤ most_in First
+TellsFormat None sites Second = most_in First < sites
+TellsFormat (Some value) sites format = value ≡ whole (number_of_format format)
+
+-- it has places for so many sites
+pub record GivesFormat (given : Option Data) (sites : ℕ) (format : Format) : Type 0 where
+  pub told : TellsFormat given sites format
+  pub fits : sites ≤ most_in format
 
 -- the link that the value of its key gives; all of it is 0 where the key is absent
 abbrev pub GivesLink : Option Data → Link → Type 0
@@ -98,7 +112,7 @@ pub record HasSites (bytes : List ℕ) (members : Members) (sites : ℕ) : Type 
   pub has_keys : HasKeys bytes members
   pub spelled : HasMember members (codes "sites") (whole sites)
   pub some : 1 ≤ sites
-  pub most : sites ≤ most_in First
+  pub most : sites ≤ most_sites
 
 -- of which so many may be lost
 pub record HasTolerated (bytes : List ℕ) (members : Members) (sites tolerated : ℕ) : Type 0 where
@@ -140,31 +154,37 @@ pub record HasRoom (bytes : List ℕ) (members : Members) (sites tolerated : ℕ
   pub has_areas : HasAreas bytes members sites tolerated declared clients capacity areas
   pub given : GivesRoom (get_member (codes "room") members) room
 
+-- and this format
+pub record HasFormat (bytes : List ℕ) (members : Members) (sites tolerated : ℕ)
+    (declared : List Item) (clients : List Client) (capacity areas room : ℕ) (format : Format) : Type 0 where
+  pub has_room : HasRoom bytes members sites tolerated declared clients capacity areas room
+  pub given : GivesFormat (get_member (codes "format") members) sites format
+
 -- and this link
 pub record HasLink (bytes : List ℕ) (members : Members) (sites tolerated : ℕ)
-    (declared : List Item) (clients : List Client) (capacity areas room : ℕ) (link : Link) : Type 0 where
-  pub has_room : HasRoom bytes members sites tolerated declared clients capacity areas room
+    (declared : List Item) (clients : List Client) (capacity areas room : ℕ) (format : Format) (link : Link) : Type 0 where
+  pub has_format : HasFormat bytes members sites tolerated declared clients capacity areas room format
   pub given : GivesLink (get_member (codes "link") members) link
 
 -- and so many ticks
 pub record HasTicks (bytes : List ℕ) (members : Members) (sites tolerated : ℕ)
-    (declared : List Item) (clients : List Client) (capacity areas room : ℕ) (link : Link)
+    (declared : List Item) (clients : List Client) (capacity areas room : ℕ) (format : Format) (link : Link)
     (ticks : ℕ) : Type 0 where
-  pub has_link : HasLink bytes members sites tolerated declared clients capacity areas room link
+  pub has_link : HasLink bytes members sites tolerated declared clients capacity areas room format link
   pub given : GivesTicks (get_member (codes "ticks") members) ticks
 
 -- and so many threads
 pub record HasThreads (bytes : List ℕ) (members : Members) (sites tolerated : ℕ)
-    (declared : List Item) (clients : List Client) (capacity areas room : ℕ) (link : Link)
+    (declared : List Item) (clients : List Client) (capacity areas room : ℕ) (format : Format) (link : Link)
     (ticks threads : ℕ) : Type 0 where
-  pub has_ticks : HasTicks bytes members sites tolerated declared clients capacity areas room link ticks
+  pub has_ticks : HasTicks bytes members sites tolerated declared clients capacity areas room format link ticks
   pub given : GivesThreads (get_member (codes "threads") members) threads
 
 -- and these arms
 pub record HasArms (bytes : List ℕ) (members : Members) (sites tolerated : ℕ)
-    (declared : List Item) (clients : List Client) (capacity areas room : ℕ) (link : Link) (ticks threads : ℕ)
+    (declared : List Item) (clients : List Client) (capacity areas room : ℕ) (format : Format) (link : Link) (ticks threads : ℕ)
     (arms : List Arm) : Type 0 where
-  pub has_threads : HasThreads bytes members sites tolerated declared clients capacity areas room link ticks threads
+  pub has_threads : HasThreads bytes members sites tolerated declared clients capacity areas room format link ticks threads
   pub given : GivesArms sites (get_member (codes "arms") members) arms
 
 -- the scenario is what the bytes spell
@@ -172,7 +192,7 @@ pub record IsReading (bytes : List ℕ) (s : Scenario) : Type 0 where
   pub members : Members
   pub declared : List Item
   pub has_arms : HasArms bytes members s.catalog.sites s.catalog.tolerated declared s.clients s.capacity s.areas s.room
-      s.link s.ticks s.threads s.arms
+      s.format s.link s.ticks s.threads s.arms
   pub containers : s.catalog.containers ≡ containers_of declared
   pub values : List Data
   pub spelled : HasMember members (codes "steps") (list values)
@@ -185,7 +205,7 @@ IsRefusedAt bytes Json = IsWithinLimit bytes × ((members : Members) → ¬ IsJs
 IsRefusedAt bytes Key = IsWithinLimit bytes × ((members : Members) × IsJsonObject bytes members × ¬ AreKeys members)
 IsRefusedAt bytes Sites =
     (members : Members) × HasKeys bytes members
-    × ((sites : ℕ) → 1 ≤ sites → sites ≤ most_in First → ¬ HasMember members (codes "sites") (whole sites))
+    × ((sites : ℕ) → 1 ≤ sites → sites ≤ most_sites → ¬ HasMember members (codes "sites") (whole sites))
 IsRefusedAt bytes F =
     (members : Members) × (sites : ℕ) × HasSites bytes members sites
     × ((tolerated : ℕ) → tolerated < sites → ¬ HasMember members (codes "f") (whole tolerated))
@@ -209,32 +229,37 @@ IsRefusedAt bytes Room =
     (members : Members) × (sites : ℕ) × (tolerated : ℕ) × (declared : List Item) × (clients : List Client)
     × (capacity : ℕ) × (areas : ℕ) × HasAreas bytes members sites tolerated declared clients capacity areas
     × ((room : ℕ) → ¬ GivesRoom (get_member (codes "room") members) room)
-IsRefusedAt bytes AtLink =
+IsRefusedAt bytes AtFormat =
     (members : Members) × (sites : ℕ) × (tolerated : ℕ) × (declared : List Item) × (clients : List Client)
     × (capacity : ℕ) × (areas : ℕ) × (room : ℕ)
     × HasRoom bytes members sites tolerated declared clients capacity areas room
+    × ((format : Format) → ¬ GivesFormat (get_member (codes "format") members) sites format)
+IsRefusedAt bytes AtLink =
+    (members : Members) × (sites : ℕ) × (tolerated : ℕ) × (declared : List Item) × (clients : List Client)
+    × (capacity : ℕ) × (areas : ℕ) × (room : ℕ) × (format : Format)
+    × HasFormat bytes members sites tolerated declared clients capacity areas room format
     × ((link : Link) → ¬ GivesLink (get_member (codes "link") members) link)
 IsRefusedAt bytes Ticks =
     (members : Members) × (sites : ℕ) × (tolerated : ℕ) × (declared : List Item) × (clients : List Client)
-    × (capacity : ℕ) × (areas : ℕ) × (room : ℕ) × (link : Link)
-    × HasLink bytes members sites tolerated declared clients capacity areas room link
+    × (capacity : ℕ) × (areas : ℕ) × (room : ℕ) × (format : Format) × (link : Link)
+    × HasLink bytes members sites tolerated declared clients capacity areas room format link
     × ((ticks : ℕ) → ¬ GivesTicks (get_member (codes "ticks") members) ticks)
 IsRefusedAt bytes Threads =
     (members : Members) × (sites : ℕ) × (tolerated : ℕ) × (declared : List Item) × (clients : List Client)
-    × (capacity : ℕ) × (areas : ℕ) × (room : ℕ) × (link : Link) × (ticks : ℕ)
-    × HasTicks bytes members sites tolerated declared clients capacity areas room link ticks
+    × (capacity : ℕ) × (areas : ℕ) × (room : ℕ) × (format : Format) × (link : Link) × (ticks : ℕ)
+    × HasTicks bytes members sites tolerated declared clients capacity areas room format link ticks
     × ((threads : ℕ) → ¬ GivesThreads (get_member (codes "threads") members) threads)
 IsRefusedAt bytes (Arms place) =
     (members : Members) × (sites : ℕ) × (tolerated : ℕ) × (declared : List Item) × (clients : List Client)
-    × (capacity : ℕ) × (areas : ℕ) × (room : ℕ) × (link : Link) × (ticks : ℕ) × (threads : ℕ) × (value : Data)
-    × HasThreads bytes members sites tolerated declared clients capacity areas room link ticks threads
+    × (capacity : ℕ) × (areas : ℕ) × (room : ℕ) × (format : Format) × (link : Link) × (ticks : ℕ) × (threads : ℕ) × (value : Data)
+    × HasThreads bytes members sites tolerated declared clients capacity areas room format link ticks threads
     × HasMember members (codes "arms") value
     × IsWrongAt (λ values. (arms : List Arm) × AreArms sites values arms) value place
 IsRefusedAt bytes (Steps place) =
     (members : Members) × (sites : ℕ) × (tolerated : ℕ) × (declared : List Item) × (clients : List Client)
-    × (capacity : ℕ) × (areas : ℕ) × (room : ℕ) × (link : Link) × (ticks : ℕ) × (threads : ℕ) × (arms : List Arm)
+    × (capacity : ℕ) × (areas : ℕ) × (room : ℕ) × (format : Format) × (link : Link) × (ticks : ℕ) × (threads : ℕ) × (arms : List Arm)
     × (value : Data)
-    × HasArms bytes members sites tolerated declared clients capacity areas room link ticks threads arms
+    × HasArms bytes members sites tolerated declared clients capacity areas room format link ticks threads arms
     × HasMember members (codes "steps") value
     × IsWrongAt (λ values. (steps : List Step) × AreSteps sites (length clients) values steps) value place
 

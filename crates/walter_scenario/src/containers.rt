@@ -6,8 +6,7 @@ ghost use Rattle.walter_base.specs.declared.names.Kind.{Kind};
 ghost use Rattle.walter_scenario.specs.Faults.{IsContainersFault};
 ghost use Rattle.walter_scenario.specs.Fronts.{IsContainer, SpellsNoContainer, IsFront, IsCatalog};
 ghost use Rattle.walter_scenario.specs.Parts.{kind_word, container_spelled};
-ghost use Rattle.walter_base.specs.declared.format.Format.TheVariants.{First};
-ghost use Rattle.walter_base.specs.Sizes.{most_in};
+ghost use Rattle.walter_base.specs.Vectors.{most_sites};
 
 use crate::place::{Place, ReadFault};
 use crate::values::{items_of, string_of, triple_of, whole_of};
@@ -60,7 +59,7 @@ pub fn catalog_of(
     value: &Value,
 ) -> Result<Catalog, ReadFault>
     requires some { 0 < sites }
-    requires most { sites ≤ most_in First }
+    requires most { sites ≤ most_sites }
     requires fewer { tolerated < sites }
     ensures ok { IfOk result (IsCatalog sites tolerated (view value.now)) }
     ensures fault { IfErr result (IsContainersFault sites (view value.now)) }

@@ -13,6 +13,7 @@ fn form_of(word: &str) -> Option<StepForm> {
         "deliver" => Some(StepForm::Deliver),
         "advance" => Some(StepForm::Advance),
         "tick" => Some(StepForm::Tick),
+        "upgrade" => Some(StepForm::Upgrade),
         "stop" => Some(StepForm::Stop),
         "restart" => Some(StepForm::Restart),
         "pump" => Some(StepForm::Pump),
@@ -79,9 +80,14 @@ fn check_values(
         (StepForm::Call, [client]) => check_client(clients, client),
         (StepForm::Deliver, [site, from, number]) => check_delivery(sites, site, from, number),
         (StepForm::Advance, [site, from]) => check_peers(sites, site, from),
-        (StepForm::Tick | StepForm::Stop | StepForm::Restart | StepForm::Pump, [site]) => {
-            check_site(sites, site)
-        }
+        (
+            StepForm::Tick
+            | StepForm::Upgrade
+            | StepForm::Stop
+            | StepForm::Restart
+            | StepForm::Pump,
+            [site],
+        ) => check_site(sites, site),
         (StepForm::Arm, [site, nth, choice]) => check_arm(sites, site, nth, choice),
         _ => Err(StepFault::Length { form }),
     }

@@ -8,6 +8,7 @@ mod clients;
 mod containers;
 mod details;
 mod faults;
+mod format;
 mod grounds;
 mod laws;
 mod link;
@@ -33,6 +34,7 @@ pub use reading::read;
 pub use scenario::{
     Arm, COMMON_AREAS, COMMON_CAPACITY, COMMON_ROOM, COMMON_THREADS, COMMON_TICKS, Client,
     GREATEST_CAPACITY, GREATEST_RATE, LAST_ARMED, LEAST_CAPACITY, LEAST_CAPACITY_OF_TWO,
-    LEAST_THREADS, LONGEST_TEXT, MOST_CLIENTS, MOST_ROOM, MOST_THREADS, MOST_TICKS, Scenario, Step,
+    LEAST_THREADS, LONGEST_TEXT, MOST_CLIENTS, MOST_OF_FIRST, MOST_ROOM, MOST_THREADS, MOST_TICKS,
+    Scenario, Step,
 };
 pub use step_fault::{StepFault, StepForm};

@@ -9,7 +9,7 @@ use crate::place::Detail;
 use serde_json::{Map, Value};
 use std::alloc::Global;
 
-/// The values of the keys. Seven keys may be absent.
+/// The values of the keys. Eight keys may be absent.
 #[derive(Clone, Copy)]
 pub struct Parts<'a> {
     pub sites: &'a Value,
@@ -19,6 +19,7 @@ pub struct Parts<'a> {
     pub capacity: Option<&'a Value>,
     pub areas: Option<&'a Value>,
     pub room: Option<&'a Value>,
+    pub format: Option<&'a Value>,
     pub link: Option<&'a Value>,
     pub ticks: Option<&'a Value>,
     pub threads: Option<&'a Value>,
@@ -39,6 +40,7 @@ fn is_key(name: &str) -> bool
             | "capacity"
             | "areas"
             | "room"
+            | "format"
             | "link"
             | "ticks"
             | "threads"
@@ -92,6 +94,7 @@ pub fn parts_of(members: &Map<String, Value>) -> Option<Parts<'_>>
         capacity: member(members, "capacity"),
         areas: member(members, "areas"),
         room: member(members, "room"),
+        format: member(members, "format"),
         link: member(members, "link"),
         ticks: member(members, "ticks"),
         threads: member(members, "threads"),

@@ -1,25 +1,22 @@
 //! How many sites there are, and how many of them may be lost.
 ghost use Rattle.std.specs.Prelude.{◌≡◌, ◌≢◌, ◌<◌, ◌≤◌, ℕ, IfSome, IfNone};
 ghost use Rattle.serde_json.specs.View.{view};
-ghost use Rattle.walter_base.specs.declared.format.Format.TheVariants.{First};
-ghost use Rattle.walter_base.specs.Sizes.{most_in};
+ghost use Rattle.walter_base.specs.Vectors.{most_sites};
 ghost use Rattle.walter_scenario.specs.Parts.{whole};
 
 use crate::values::{number_below, whole_of};
 use serde_json::Value;
-
-/// A journal of the first format has places for so many sites.
-const MOST_PLACES: u8 = 8;
+use walter_base::MOST_SITES;
 
 /// The number of sites that the value is.
 pub fn sites_of(value: &Value) -> Option<u8>
-    ensures there { IfSome result (λ sites. (1 ≤ sites) × (sites ≤ most_in First)) }
+    ensures there { IfSome result (λ sites. (1 ≤ sites) × (sites ≤ most_sites)) }
     ensures some { IfSome result (λ sites. view value.now ≡ whole sites) }
     ensures none { IfNone result
-        ((sites : ℕ) → 1 ≤ sites → sites ≤ most_in First → view value.now ≢ whole sites) }
+        ((sites : ℕ) → 1 ≤ sites → sites ≤ most_sites → view value.now ≢ whole sites) }
 {
     let sites = u8::try_from(whole_of(value)?).ok()?;
-    (sites >= 1 && sites <= MOST_PLACES).then_some(sites)
+    (sites >= 1 && usize::from(sites) <= MOST_SITES).then_some(sites)
 }
 
 /// The number of sites that may be lost, of so many.

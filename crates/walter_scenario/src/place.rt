@@ -15,9 +15,9 @@ pub enum Place {
     Json,
     /// A key is none of a scenario's, or one is wanting.
     #[error("the keys: wants sites, f, containers, clients and steps, \
-        and takes capacity, areas, room, link, ticks, threads and arms besides")]
+        and takes capacity, areas, room, format, link, ticks, threads and arms besides")]
     Key,
-    #[error("sites: wants a whole number from 1 to 8")]
+    #[error("sites: wants a whole number from 1 to 16")]
     Sites,
     #[error("f: wants a whole number below sites")]
     F,
@@ -35,6 +35,8 @@ pub enum Place {
     Areas,
     #[error("the room: wants a whole number from 0 to 100000")]
     Room,
+    #[error("the format: wants 1 or 2, and 1 only where there are at most 8 sites")]
+    Format,
     #[error("the link: wants an object of just seed, a whole number below 2^64, and lose, repeat and swap, \
         whole numbers from 0 to 1000")]
     Link,
@@ -48,7 +50,7 @@ pub enum Place {
     Arms(usize),
     /// The first wrong step, counted from 0; 0 where the value is no list.
     #[error("step {0}: wants [\"call\", client], [\"deliver\", site, from, number], [\"advance\", site, from], \
-        [\"tick\", site], [\"stop\", site], [\"restart\", site], [\"pump\", site] or \
+        [\"tick\", site], [\"upgrade\", site], [\"stop\", site], [\"restart\", site], [\"pump\", site] or \
         [\"arm\", site, nth, choice] in a list, a client of the scenario, a site below sites, \
         a from that is another one, a number from 1 to 4294967295, an nth from 1 to 1000000, a choice below 2^64")]
     Steps(usize),

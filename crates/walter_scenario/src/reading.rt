@@ -31,6 +31,7 @@ fn scenario_on(alloc: Global, grounds: Grounds, parts: Parts<'_>) -> Result<Scen
         capacity: grounds.capacity,
         areas: grounds.areas,
         room: grounds.room,
+        format: grounds.format,
         link: settings.link,
         ticks: settings.ticks,
         threads: settings.threads,

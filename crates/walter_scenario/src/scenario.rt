@@ -1,6 +1,6 @@
 //! A scenario, and the limits of what it may name.
 use crate::lists::{Arms, Clients, Steps};
-use walter_base::{Catalog, SharedBytes, SiteId};
+use walter_base::{Catalog, Format, SharedBytes, SiteId};
 use walter_link::Link;
 
 /// The most bytes that a scenario may have.
@@ -23,6 +23,9 @@ pub const COMMON_AREAS: u8 = 1;
 
 /// The least capacity of a journal of two areas, in bytes: each of them has place for the first epoch.
 pub const LEAST_CAPACITY_OF_TWO: u64 = 47;
+
+/// The most sites of which a journal of the first format may be.
+pub const MOST_OF_FIRST: u8 = 8;
 
 /// The most entries for which a trail may have its memory from the start.
 pub const MOST_ROOM: u32 = 100_000;
@@ -85,6 +88,8 @@ pub enum Step {
     },
     /// The site is to say again what its peers may have missed.
     Tick(SiteId),
+    /// The site is to journal in the second format from now on.
+    Upgrade(SiteId),
     /// The site loses its memory.
     Stop(SiteId),
     /// The site is to come up.
@@ -98,8 +103,8 @@ pub enum Step {
 
 /// What is to be played: the sites and their containers, the clients by their numbers from 0, the capacity of each
 /// site's journal in bytes, how many areas it has, for how many entries each trail has its memory from the start, the
-/// link between the sites, how many ticks each site may make when it is pumped, how many client threads a threaded run
-/// has, what is armed before the first step, and the script.
+/// format of a journal that is made, the link between the sites, how many ticks each site may make when it is pumped,
+/// how many client threads a threaded run has, what is armed before the first step, and the script.
 #[derive(Debug, Drop)]
 pub struct Scenario {
     pub catalog: Catalog,
@@ -107,6 +112,7 @@ pub struct Scenario {
     pub capacity: u64,
     pub areas: u8,
     pub room: u32,
+    pub format: Format,
     pub link: Link,
     pub ticks: u32,
     pub threads: u8,

@@ -12,6 +12,8 @@ pub enum StepForm {
     Advance,
     #[error("[\"tick\", site]")]
     Tick,
+    #[error("[\"upgrade\", site]")]
+    Upgrade,
     #[error("[\"stop\", site]")]
     Stop,
     #[error("[\"restart\", site]")]
@@ -33,8 +35,8 @@ pub enum StepFault {
     #[error("its value: wants a list")]
     NoList,
     /// The first value is no word of a step, or isn't there.
-    #[error("its word: wants \"call\", \"deliver\", \"advance\", \"tick\", \"stop\", \"restart\", \"pump\" \
-        or \"arm\"")]
+    #[error("its word: wants \"call\", \"deliver\", \"advance\", \"tick\", \"upgrade\", \"stop\", \
+        \"restart\", \"pump\" or \"arm\"")]
     Word,
     /// A step of this word has more values, or fewer.
     #[error("its length: wants just {form}")]

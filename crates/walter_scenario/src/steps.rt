@@ -64,6 +64,7 @@ fn step_of_one(sites: u8, clients: usize, word: &Value, number: &Value) -> Optio
     match string_of(word)? {
         "call" => Some(Step::Call(client_of(clients, number)?)),
         "tick" => Some(Step::Tick(site_of(sites, number)?)),
+        "upgrade" => Some(Step::Upgrade(site_of(sites, number)?)),
         "stop" => Some(Step::Stop(site_of(sites, number)?)),
         "restart" => Some(Step::Restart(site_of(sites, number)?)),
         "pump" => Some(Step::Pump(site_of(sites, number)?)),
