@@ -102,7 +102,8 @@ impl<D: Disk + Drop, S: Source + Drop, K: Sink + Drop> Cell<D, S, K> {
 
     /// The format that the header of its journal names.
     pub fn header(&self) -> Format
-        ensures { result ≡ header_of self.now.node.layout }
+        ensures header { result ≡ header_of self.now.node.layout }
+        ensures places { self.now.node.catalog.sites ≤ most_in result }
     {
         self.node.header()
     }

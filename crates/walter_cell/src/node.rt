@@ -118,7 +118,8 @@ impl<D: Disk + Drop> Node<D> {
 
     /// The format that the header of its journal names.
     pub fn header(&self) -> Format
-        ensures { result ≡ header_of self.now.layout }
+        ensures header { result ≡ header_of self.now.layout }
+        ensures places { self.now.catalog.sites ≤ most_in result }
     {
         self.engine.header()
     }

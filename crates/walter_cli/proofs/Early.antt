@@ -43,7 +43,7 @@ untouched_before g before after s same = record {
 -- the end where no disk was taken
 pub ends_before : {D : Type 0} (g : Ghosts D) (before after : RackAt D) (s : Scenario) (fault : Fault) → after.given ≡ before.given
     → after.handed ≡ before.handed → after.taken ≡ before.taken → before.faults ≤ after.faults
-    → (16 ≤ before.unfailing → after.faults ≡ before.faults)
+    → (32 ≤ before.unfailing → after.faults ≡ before.faults)
     → IsUnbuilt (racked g before after) s fault → EndsEarly (racked g before after) s fault
 ends_before g before after s fault given handed taken level sure why = record {
   why = why;
@@ -97,7 +97,7 @@ module _ {D : Type 0} (g : Ghosts D) (s : Scenario) (before mid after : RackAt D
       (λ bytes told only. so bytes (record { told = told; only = only })))
 
   -- the end where the disks were taken, and given back
-  pub ends_early : (fault : Fault) → AreLeft → (16 ≤ before.unfailing → after.faults ≡ before.faults)
+  pub ends_early : (fault : Fault) → AreLeft → (32 ≤ before.unfailing → after.faults ≡ before.faults)
       → IsUnbuilt rack s fault → EndsEarly rack s fault
   ends_early fault left sure why = record {
     why = why;
@@ -190,7 +190,7 @@ module _ {D : Type 0} (g : Ghosts D) (s : Scenario) (before mid after : RackAt D
   pub ends_unbuilt : length taken ≡ s.catalog.sites → IsWhyNone g s taken u
       → ((i : ℕ) (disk : D) → slice_get taken i ≡ Some disk
       → (now : D) × (slice_get (map (λ (d : D). Some d) u.disks.items) i ≡ Some (Some now)) × LeavesDisk g s disk now)
-      → (16 ≤ before.unfailing → after.faults ≡ before.faults)
+      → (32 ≤ before.unfailing → after.faults ≡ before.faults)
       → EndsEarly (racked g before after) s (fault_of u.site.0 u.why)
   ends_unbuilt many why left sure =
       let disk = there_is taken u.site.0 why.there in

@@ -240,9 +240,9 @@ pub err_never : {X E : Type 0} (r : Result X E) (e : E) → r ≡ Err e → IsOk
 err_never (Ok x) e is ok = absurd cc
 err_never (Err f) e is ok = absurd cc
 
--- of a rack of which sixteen calls don't fail eight disks are taken and given back without a fault
+-- of a rack of which thirty-two calls don't fail sixteen disks are taken and given back without a fault
 pub sure_back : {D : Type 0} (g : Ghosts D) (a b c : RackAt D) (disks back : List D) → AreTaken g a b disks → AreGiven b c 0 back
-    → length back ≡ length disks → length disks ≤ 8 → 16 ≤ a.unfailing → c.faults ≡ a.faults
+    → length back ≡ length disks → length disks ≤ 16 → 32 ≤ a.unfailing → c.faults ≡ a.faults
 sure_back g a b c disks back taken gives long few many =
     let left = taken.unfailing (omega (arith, few, many)) in
     let level = taken.faults in

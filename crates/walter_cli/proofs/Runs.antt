@@ -135,7 +135,7 @@ one_unfit rack s a b c d p q small told within x y = elim (cases_lt a b) [
 
 module _ (words : List (String Global)) (rack : Racked) (before after : Outside) (ended : Ended)
     (status : ended.status ≡ status_of ended.fault) (back : rack.balanced)
-    (unfailing : rack.unfailing 16 → ¬ rack.failed)
+    (unfailing : rack.unfailing 32 → ¬ rack.failed)
     (one_count : (m n : ℕ) → rack.took m → rack.took n → m ≡ n) where
   -- the end of a call whose words ask for this run, and for no other
   module _ (command : Command) (line : Asks command words) (only : (other : Command) → Asks other words → other ≡ command) where

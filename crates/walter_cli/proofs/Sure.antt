@@ -67,7 +67,7 @@ module _ (words : List (String Global)) {D : Type 0} (g : Ghosts D) (first last 
     (promised : Promise words (racked g first last) before after ended)
     (told : (i : ℕ) → IsTold (racked g first last) i)
     (empty : (i : ℕ) → Holds (racked g first last) i (λ bytes. bytes ≡ []))
-    (many : 16 ≤ first.unfailing)
+    (many : 32 ≤ first.unfailing)
     (none_handed : first.handed ≡ Some [])
     (sound : (more : List (ℕ × D)) → last.handed ≡ Some more
     → All (λ (it : ℕ × D). IsUnarmed (g.known it.1) (g.may_leave it.1) → (g.known it.1).faults ≡ 0) more) where

@@ -32,14 +32,15 @@ by_key Gives Holds none some (Some v) gives = some v gives
 pub reading_playable : (bytes : List ℕ) (s : Scenario) → IsReading bytes s → IsPlayable s
 reading_playable bytes s reading =
     let threads = reading.has_arms.has_threads in
-    let areas = threads.has_ticks.has_link.has_room.has_areas in
+    let format = threads.has_ticks.has_link.has_format in
+    let areas = format.has_room.has_areas in
     let capacity = areas.has_capacity in
     let clients = capacity.has_clients in
     let containers = clients.has_containers in
     let tolerated = containers.has_tolerated in
     record {
       some = tolerated.has_sites.some;
-      few = tolerated.has_sites.most;
+      few = format.given.fits;
       fewer = tolerated.fewer;
       whole = right_whole s.catalog reading.declared containers.are.right reading.containers;
       within = clients.are.within;

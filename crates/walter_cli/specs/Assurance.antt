@@ -25,7 +25,7 @@ use Rattle.walter_words.specs.declared.asked.Command.{Command}
 
 -- what is known of a rack in memory that was made for a call, with room for sixteen disks
 abbrev pub in_memory : RackState → Racked
-in_memory rack = racked disk_ghosts (rack_at rack_ghosts (rack_of [] 16)) (rack_at rack_ghosts rack)
+in_memory rack = racked disk_ghosts (rack_at rack_ghosts (rack_of [] 32)) (rack_at rack_ghosts rack)
 
 -- the trails of the sites of the scenario that is posed: they are right and linked, and spell a legal
 -- history; each call is one of its client's, in order; no call of a disk failed at a site where the scenario arms

@@ -8,7 +8,6 @@ use Rattle.walter_engine.specs.Begins.{HasNoRecord}
 use Rattle.walter_engine.specs.declared.answers.BeginFault.{BeginFault}
 use Rattle.walter_engine.specs.declared.answers.BeginFault.TheVariants as unbegun
 use Rattle.walter_rules.specs.declared.entry.Entry.{Entry}
-use Rattle.walter_base.specs.declared.format.Format.TheVariants.{First}
 use Rattle.walter_base.specs.Sizes.{most_in}
 use Rattle.walter_linked.specs.Catalogs.{IsWhole}
 use Rattle.walter_play.specs.Scripts.{AreArmed, EndsPlay, arms_of}
@@ -46,7 +45,7 @@ IsPoseFault (Say text) before after faults faults' fault = ⊥
 -- these sites; its clients can be numbered, and its threads made; and a journal has place for an epoch in each of its areas
 pub record IsPlayable (s : Scenario) : Type 0 where
   pub some : 0 < s.catalog.sites
-  pub few : s.catalog.sites ≤ most_in First
+  pub few : s.catalog.sites ≤ most_in s.format
   pub fewer : s.catalog.tolerated < s.catalog.sites
   pub whole : IsWhole s.catalog
   pub within : All (λ (client : Client). client.site.0 < s.catalog.sites) s.clients
@@ -117,7 +116,7 @@ pub record EndsEarly (rack : Racked) (s : Scenario) (fault : Fault) : Type 0 whe
   pub why : IsUnbuilt rack s fault
   pub untouched : IsUntouched rack s
   pub given_back : rack.balanced
-  pub unfailing : rack.unfailing 16 → ¬ rack.failed
+  pub unfailing : rack.unfailing 32 → ¬ rack.failed
 
 -- there are no trails, and no run began; or they are those of a run
 abbrev pub MayHaveRun : Racked → Scenario → List (List Entry) → Type 0

@@ -264,7 +264,7 @@ pub record Promise (words : List (String Global)) (rack : Racked) (before after 
   -- whatever the status, each disk that was taken was handed back, and given back but for one at most for each fault of
   -- the rack; and one of which two calls for each site don't fail doesn't
   pub given_back : rack.balanced
-  pub unfailing : rack.unfailing 16 → ¬ rack.failed
+  pub unfailing : rack.unfailing 32 → ¬ rack.failed
   -- but for 0 and 4 nothing is written
   pub silent : ended.status ≢ 0 → ended.status ≢ 4 → after.holds ≡ before.holds
   -- whatever the status, the trails answered are those of a run; or there are none, and no run began

@@ -1,11 +1,13 @@
 -- What is known of a rack before a run and after it, and why no site can begin with a disk.
 use Rattle.std.specs.Prelude.{◌≡◌, ◌≢◌, ◌+◌, ◌<◌, ◌≤◌, ℕ, List, [], ◌∷◌, ◌++◌, length, All, Contains, Option, None, Some, IfSome, IsSome}
-use Rattle.walter_checkpoint.specs.Areas.{Shape, HasContent, IsForeign, IsDamaged}
+use Rattle.walter_checkpoint.specs.Areas.{Shape, IsForeign}
+use Rattle.walter_checkpoint.specs.Faults.{IsDamagedBook}
 use Rattle.walter_cluster.specs.Benches.{shape_of}
 use Rattle.walter_disk.specs.Disks.{DiskState}
 use Rattle.walter_disk.specs.declared.disk.Disk.{Ghosts}
 use Rattle.walter_disk.specs.declared.rack.Rack.{Ghosts as RackGhosts}
 use Rattle.walter_engine.specs.Begins.{MayHaveBegun, HasNoRecord}
+use Rattle.walter_engine.specs.Contents.{HasBook}
 use Rattle.walter_scenario.specs.declared.scenario.Scenario.{Scenario}
 use Rattle.walter_cli.specs.declared.ended.JournalCause.{JournalCause}
 use Rattle.walter_cli.specs.declared.ended.JournalCause.TheVariants.{Foreign, Damaged, Used}
@@ -180,7 +182,7 @@ pub record IsUntouched (rack : Racked) (s : Scenario) : Type 0 where
 -- why no new site can begin with these bytes, and at which place that stands: they are no journal, or a damaged one, or
 -- one with records, behind its header
 abbrev pub HasCause : Shape → JournalCause → ℕ → List ℕ → Type 0
-HasCause shape Foreign place bytes = (place ≡ 0) × IsForeign shape bytes × (bytes ≢ [])
-HasCause shape (Damaged claimed) place bytes = IsDamaged shape bytes place claimed
+HasCause shape Foreign place bytes = (place ≡ 0) × IsForeign shape.capacity shape.sites bytes × (bytes ≢ [])
+HasCause shape (Damaged claimed) place bytes = IsDamagedBook shape.capacity shape.sites bytes place claimed
 HasCause shape Used place bytes =
-    (place ≡ 8) × ((bodies : List (List ℕ)) × HasContent shape bytes bodies × (bodies ≢ []))
+    (place ≡ 8) × ((bodies : List (List ℕ)) × HasBook shape bytes bodies × (bodies ≢ []))

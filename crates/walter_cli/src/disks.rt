@@ -1,7 +1,6 @@
 //! The disks of a run: they are taken from a rack, and given back.
 ghost use Rattle.std.specs.Prelude.{◌≡◌, ◌<◌, ◌≤◌, ◌+◌, length, IfOk, IfErr, OnOk};
-ghost use Rattle.walter_base.specs.declared.format.Format.TheVariants.{First};
-ghost use Rattle.walter_base.specs.Sizes.{most_in};
+ghost use Rattle.walter_base.specs.Vectors.{most_sites};
 ghost use Rattle.walter_cli.specs.Disks.{AreTaken, AreGiven, IsFirstLost, lost_after};
 ghost use Rattle.walter_cli.specs.Ending.{EndsEarly};
 ghost use Rattle.walter_cli.specs.Racks.{rack_at, racked};
@@ -17,7 +16,7 @@ pub fn take_all<R: Rack>(
     rack: &mut R,
     scenario: &Scenario,
 ) -> Result<Vec<R::D>, Fault>
-    requires few { scenario.now.catalog.sites ≤ most_in First }
+    requires few { scenario.now.catalog.sites ≤ most_sites }
     ensures taken { IfOk result (λ disks. (length disks.items ≡ scenario.now.catalog.sites) × AreTaken R.D.Disk
         (rack_at R.Rack rack.old) (rack_at R.Rack rack.new)
         disks.items) }
@@ -43,7 +42,7 @@ pub fn take_all<R: Rack>(
 
 /// Gives the disks of the first sites back, in order, or answers the first site whose disk the rack lost.
 pub fn give_all<R: Rack>(rack: &mut R, disks: Vec<R::D>) -> Result<(), u8>
-    requires few { length disks.items ≤ most_in First }
+    requires few { length disks.items ≤ most_sites }
     ensures given { AreGiven
         (rack_at R.Rack rack.old) (rack_at R.Rack rack.new)
         0 disks.items }

@@ -36,7 +36,7 @@ pub fn top_in_memory<X: AllocGlobal + Threads + Wait + Sync, S: Source, K: Sink>
 {
     let alloc = rt.alloc();
     // For each site a disk is taken and given back.
-    let Ok(mut rack) = MemoryRack::with_room(alloc, 16) else {
+    let Ok(mut rack) = MemoryRack::with_room(alloc, 32) else {
         return without_memory(alloc);
     };
     let ended = top(rt, words, source, sink, &mut rack);

@@ -46,7 +46,7 @@ pub fn run<X: Threads + Wait + Sync, K: Sink, R: Rack>(
     requires driven { HasStepsFor command.now scenario.now }
     ensures status { result.status ≡ status_of result.fault }
     ensures given_back { (racked R.D.Disk (rack_at R.Rack rack.old) (rack_at R.Rack rack.new)).balanced }
-    ensures unfailing { 16 ≤ R.unfailing rack.old → ¬ (R.faults rack.old < R.faults rack.new) }
+    ensures unfailing { 32 ≤ R.unfailing rack.old → ¬ (R.faults rack.old < R.faults rack.new) }
     ensures run { EndsRun (racked R.D.Disk (rack_at R.Rack rack.old) (rack_at R.Rack rack.new))
         command.now scenario.now (K.holds sink.old) (K.holds sink.new) (K.faults sink.old) (K.faults sink.new)
         result.trails.items result.fault }

@@ -1,6 +1,8 @@
 //! The cells of all sites, bare: clients get their turns, and events come to the sites.
-ghost use Rattle.std.specs.Prelude.{◌≡◌, ◌≢◌, ◌<◌, ℕ, List, length, map, slice_get, Some, true, IsOk, OnErr, OnOk, IfOk};
+ghost use Rattle.std.specs.Prelude.{◌≡◌, ◌≢◌, ◌<◌, ◌≤◌, ℕ, List, All, length, map, slice_get, Some, true, IsOk, OnErr, OnOk, IfOk};
+ghost use Rattle.walter_base.specs.declared.format.Format.{Format as Header};
 ghost use Rattle.walter_base.specs.declared.names.SiteId.{SiteId};
+ghost use Rattle.walter_base.specs.Sizes.{most_in};
 ghost use Rattle.walter_cell.specs.Cells.{CellValue};
 ghost use Rattle.walter_cell.specs.Entries.{IsPlain};
 ghost use Rattle.walter_cell.specs.Lines.{CanFail, HasFaultAt, IsLineAt, NextIsWrite};
@@ -64,7 +66,10 @@ impl<D: Disk + Drop, S: Source + Drop, K: Sink + Drop> Bench<D, S, K> {
 
     /// The formats that the headers of the journals name, by the numbers of the sites.
     pub fn headers(&self, alloc: Global) -> Mem<Vec<Format>>
-        ensures { IfOk result (λ headers. headers.items ≡ map (λ (c : CellValue D). header_of c.node.layout) self.now.cells) }
+        ensures headers { IfOk result (λ headers.
+            headers.items ≡ map (λ (c : CellValue D). header_of c.node.layout) self.now.cells) }
+        ensures places { IfOk result (λ headers.
+            All (λ (header : Header). length self.now.cells ≤ most_in header) headers.items) }
     {
         headers_of(alloc, &self.cells)
     }
@@ -256,7 +261,11 @@ fn headers_of<D: Disk + Drop, S: Source + Drop, K: Sink + Drop>(
     alloc: Global,
     cells: &[Cell<D, S, K>],
 ) -> Mem<Vec<Format>>
-    ensures { IfOk result (λ headers. headers.items ≡ map (λ (c : CellValue D). header_of c.node.layout) cells.now) }
+    requires { All (λ (c : CellValue D). c.node.catalog.sites ≡ length cells.now) cells.now }
+    ensures headers { IfOk result (λ headers.
+        headers.items ≡ map (λ (c : CellValue D). header_of c.node.layout) cells.now) }
+    ensures places { IfOk result (λ headers.
+        All (λ (header : Header). length cells.now ≤ most_in header) headers.items) }
 {
     let mut headers = Vec::new(alloc);
     for cell in cells {

@@ -121,7 +121,8 @@ impl<D: Disk + Drop> Engine<D> {
     /// The format that the header of its journal names: the one that was asked for, or, once the site has begun, the one
     /// that was found.
     pub fn header(&self) -> Format
-        ensures { result ≡ header_of (layout_in self.now) }
+        ensures header { result ≡ header_of (layout_in self.now) }
+        ensures places { (catalog_in self.now).sites ≤ most_in result }
     {
         self.format
     }

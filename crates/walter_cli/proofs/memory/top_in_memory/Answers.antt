@@ -40,6 +40,6 @@ returns g c =
     of_made c.args.words.now c.in-Ok.rack c.top-ended.new.rack _ _ c.top-ended.result is
     (assured c.args.words.now disk_ghosts (at c.in-Ok.rack) last _ _ c.top-ended.result c.top-ended.ensures (λ i. refl)
     (λ i. subst (λ (r : RackState). Holds (racked disk_ghosts (at r) last) i (λ bytes. bytes ≡ [])) (sym is) refl)
-    (subst (λ (r : RackState). 16 ≤ unfailing_of r) (sym is) (omega arith))
+    (subst (λ (r : RackState). 32 ≤ unfailing_of r) (sym is) (omega arith))
     (ap (λ (r : RackState). Some r.handed) is)
     (λ more same. sound c.top-ended.new.rack.handed more c.given_unarmed_never_failed.ensures.handed same))

@@ -18,12 +18,12 @@ at rack = rack_at rack_ghosts rack
 new_balanced : (rack : RackState) → rack ≡ rack_of [] 0 → (in_memory rack).balanced
 new_balanced rack is =
     subst (λ (r : RackState). (in_memory r).balanced) (sym is)
-    (none_balances disk_ghosts (at (rack_of [] 16)) (at (rack_of [] 0)) refl refl refl (omega arith))
+    (none_balances disk_ghosts (at (rack_of [] 32)) (at (rack_of [] 0)) refl refl refl (omega arith))
 
 new_untaken : (rack : RackState) → rack ≡ rack_of [] 0 → IsUntaken (in_memory rack)
 new_untaken rack is =
     subst (λ (r : RackState). IsUntaken (in_memory r)) (sym is)
-    (untaken_before disk_ghosts (at (rack_of [] 16)) (at (rack_of [] 0)) refl refl)
+    (untaken_before disk_ghosts (at (rack_of [] 32)) (at (rack_of [] 0)) refl refl)
 
 pub returns-clause-assured : goal.returns-clause-assured
 returns-clause-assured c = λ words outside.

@@ -84,7 +84,7 @@ module _ (g : Over) (c : After-give_all-given g) where
   back : rack.balanced
   back = balances g.R.D.Disk before mid after built.disks c.close-trails.result.disks.items came_back
 
-  sure : 16 ≤ before.unfailing → after.faults ≡ before.faults
+  sure : 32 ≤ before.unfailing → after.faults ≡ before.faults
   sure enough =
       let few = c.requires.playable.few in
       let many = built.many in
