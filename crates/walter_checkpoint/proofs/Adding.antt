@@ -4,7 +4,7 @@ use Rattle.std.proofs.lemmas.List.Sums.{sum_by-append}
 use Rattle.walter_disk.specs.Images.{LeavesOnly}
 use Rattle.walter_disk.specs.declared.disk.Disk.{Ghosts}
 use Rattle.walter_disk.proofs.Moments.{weaker}
-use Rattle.walter_journal.specs.Layout.{header, span_of, IsShort, HasBehind, IsBehindOrOneMore}
+use Rattle.walter_journal.specs.Layout.{header_in, span_of, IsShort, HasBehind, IsBehindOrOneMore}
 use Rattle.walter_journal.specs.Journals.{end_of, capacity_of, need_of}
 use Rattle.walter_journal.specs.Journals as journal
 use Rattle.walter_checkpoint.specs.Packs.{pack_of}
@@ -18,7 +18,7 @@ use Rattle.walter_checkpoint.proofs.Renewing.{content_two}
 pub content_of : (shape : Shape) (live : Live) (packed behind : List (List ℕ)) (front bytes : List ℕ) → IsFront shape live packed front → All IsShort packed → IsWithin shape live packed behind → HasBehind front bytes behind
     → HasLaid live shape bytes (packed ++ behind)
 content_of shape Whole packed behind front bytes is short within content =
-    subst (λ l. HasBehind header bytes (l ++ behind)) (sym is.1) (subst (λ f. HasBehind f bytes behind) is.0 content)
+    subst (λ l. HasBehind (header_in shape.header) bytes (l ++ behind)) (sym is.1) (subst (λ f. HasBehind f bytes behind) is.0 content)
 content_of shape A packed behind front bytes is short within content = (content_two shape A packed behind front bytes (λ e. cc) is short within content).0
 content_of shape B packed behind front bytes is short within content = (content_two shape B packed behind front bytes (λ e. cc) is short within content).0
 

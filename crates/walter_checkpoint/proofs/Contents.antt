@@ -1,5 +1,5 @@
 -- Bytes are a book of one list of bodies. With the header of one area it is a journal's.
-use Rattle.std.proofs.Common.{◌≡◌, ◌≢◌, ◌⊎◌, inl, inr, ⊎_elim, ◌+◌, ◌-◌, ◌<◌, ◌≤◌, ◌^◌, ℕ, Bool, true, false, List, [], ◌∷◌, ◌++◌, length, take, drop, get_or, if◌then◌else◌, All, refl, sym, ap, subst, ◌∙◌, arith, append_assoc, length-append, take-append-drop}
+use Rattle.std.proofs.Common.{◌≡◌, ◌⊎◌, inl, inr, ⊎_elim, ◌+◌, ◌-◌, ◌<◌, ◌≤◌, ◌^◌, ℕ, Bool, true, false, List, [], ◌∷◌, ◌++◌, length, take, drop, get_or, if◌then◌else◌, All, refl, sym, ap, subst, ◌∙◌, arith, append_assoc, length-append, take-append-drop}
 use Rattle.std.proofs.lemmas.Bool.{true≢false, eq-eqb, ltb-true, ltb-false}
 use Rattle.std.proofs.lemmas.Bool.Decides.{eqb_tells}
 use Rattle.std.specs.Prelude.{◌==◌, ◌&&◌, nat_lt}
@@ -8,27 +8,34 @@ use Rattle.std.proofs.lemmas.List.Elements.{recursion_from_All}
 use Rattle.std.specs.List.{AllByRecursion}
 use Rattle.byteorder.specs.Numbers.{big_number-reads_back}
 use Rattle.byteorder.specs.Endian.{big_bytes, big_number}
-use Rattle.walter_journal.specs.Layout.{header, records, record_of, span_of, IsShort, HasBehind}
-use Rattle.walter_journal.specs.Layout as journal
-use Rattle.walter_journal.proofs.Layouts.{same_record, same_layout, closed_ends, one_content}
+use Rattle.walter_base.specs.declared.format.Format.{Format}
+use Rattle.walter_journal.specs.Layout.{header_in, records, record_of, IsShort, HasBehind}
+use Rattle.walter_journal.proofs.Layouts.{same_record, same_layout, same_digit, closed_ends, one_content}
 use Rattle.walter_checkpoint.specs.Packs.{are_zeros, start_end, spare_of, kept_in, cut, is_cut, entry_of, entries, pack_of}
-use Rattle.walter_checkpoint.specs.Areas.{Shape, area_size, header_of_two, HasArea, IsLive, HasTwo, HasContent}
+use Rattle.walter_checkpoint.specs.Areas.{Shape, shape_by, area_size, header_of_two, HasArea, IsLive, HasTwo, HasContent}
 use Rattle.walter_checkpoint.proofs.Packs.{length-pack, length-cut}
 
-not_two : (shape : Shape) (bytes : List ℕ) (bodies : List (List ℕ)) → HasTwo shape bytes bodies → take 8 bytes ≢ header
-not_two shape bytes bodies two e =
-    let here : header_of_two ≡ header = sym (ap (take 8) two.is) ∙ e in
-    omega (arith, ap (λ l. get_or l 6 0) here)
+-- the headers of one area and of two differ
+pub headers_differ : (bytes one two : List ℕ) (format other : Format) → bytes ≡ header_in format ++ one → bytes ≡ header_of_two other ++ two → ⊥
+headers_differ bytes one two format other is_one is_two = omega (arith, ap (λ l. get_or l 6 0) (sym is_one ∙ is_two))
 
-pub one_area : (shape : Shape) (bytes : List ℕ) (bodies : List (List ℕ)) → take 8 bytes ≡ header → HasContent shape bytes bodies → journal.HasContent bytes bodies
-one_area shape bytes bodies is (inl one) = one
-one_area shape bytes bodies is (inr two) = absurd (not_two shape bytes bodies two is)
+-- and those of two formats
+pub one_header : (bytes one two : List ℕ) (format other : Format) → bytes ≡ header_of_two format ++ one → bytes ≡ header_of_two other ++ two → format ≡ other
+one_header bytes one two format other is_one is_two = same_digit format other (ap (λ l. get_or l 7 0) (sym is_one ∙ is_two))
 
-pub two_areas : (shape : Shape) (bytes : List ℕ) (bodies : List (List ℕ)) → take 8 bytes ≡ header_of_two → HasContent shape bytes bodies → HasTwo shape bytes bodies
-two_areas shape bytes bodies is (inl one) =
-    let here : header ≡ header_of_two = sym (ap (take 8) one.is) ∙ is in
-    absurd (omega (arith, ap (λ l. get_or l 6 0) here))
-two_areas shape bytes bodies is (inr two) = two
+-- what the first bytes are stands in front
+front_is : (bytes front : List ℕ) → take 8 bytes ≡ front → bytes ≡ front ++ drop 8 bytes
+front_is bytes front is = sym (take-append-drop 8 bytes) ∙ ap (λ l. l ++ drop 8 bytes) is
+
+pub one_area : (shape : Shape) (format : Format) (bytes : List ℕ) (bodies : List (List ℕ)) → take 8 bytes ≡ header_in format → HasContent shape bytes bodies → (shape.header ≡ format) × HasBehind (header_in format) bytes bodies
+one_area shape format bytes bodies is (inl one) =
+    let same : shape.header ≡ format = same_digit shape.header format (ap (λ l. get_or l 7 0) (sym one.is ∙ front_is bytes (header_in format) is)) in
+    (same, subst (λ f. HasBehind (header_in f) bytes bodies) same one)
+one_area shape format bytes bodies is (inr two) = absurd (headers_differ bytes (drop 8 bytes) (two.switch ∷ two.areas) format shape.header (front_is bytes (header_in format) is) two.is)
+
+pub two_areas : (shape : Shape) (format : Format) (bytes : List ℕ) (bodies : List (List ℕ)) → take 8 bytes ≡ header_of_two format → HasContent shape bytes bodies → (shape.header ≡ format) × HasTwo shape bytes bodies
+two_areas shape format bytes bodies is (inl one) = absurd (headers_differ bytes (records bodies ++ one.gate ∷ one.rest) (drop 8 bytes) shape.header format one.is (front_is bytes (header_of_two format) is))
+two_areas shape format bytes bodies is (inr two) = (one_header bytes (two.switch ∷ two.areas) (drop 8 bytes) shape.header format two.is (front_is bytes (header_of_two format) is), two)
 
 -- zeros of one number are the same
 zero_head : (x : ℕ) (xs : List ℕ) → are_zeros (x ∷ xs) ≡ true → (x ≡ 0) × (are_zeros xs ≡ true)
@@ -167,16 +174,13 @@ one_area_content shape bytes a b small area other =
     let e : pack_of shape.sites area.packed ++ (records area.behind ++ area.content.gate ∷ area.content.rest) ≡ pack_of shape.sites other.packed ++ (records other.behind ++ other.content.gate ∷ other.content.rest) =
     sym (append_assoc (pack_of shape.sites area.packed) (records area.behind) (area.content.gate ∷ area.content.rest)) ∙ sym area.content.is ∙ other.content.is ∙ append_assoc (pack_of shape.sites other.packed) (records other.behind) (other.content.gate ∷ other.content.rest) in
     let packs = same_pack shape.sites area.packed other.packed _ _ area.short other.short (omega (arith, less, area.within)) (omega (arith, less, other.within)) e in
-    let behind = same_layout area.behind other.behind (area.content.gate ∷ area.content.rest) (other.content.gate ∷ other.content.rest) area.content.fit other.content.fit (closed_ends _ _ area.content.closed) (closed_ends _ _ other.content.closed) (ap (λ l. header ++ l) packs.1) in
+    let behind = same_layout [] area.behind other.behind (area.content.gate ∷ area.content.rest) (other.content.gate ∷ other.content.rest) area.content.fit other.content.fit (closed_ends _ _ area.content.closed) (closed_ends _ _ other.content.closed) packs.1 in
     area.are ∙ (λ i. packs.0 i ++ behind.0 i) ∙ sym other.are
 
--- and so has a book
-pub one_book : (shape : Shape) (bytes : List ℕ) (a b : List (List ℕ)) → shape.capacity < 2 ^ 64 → HasContent shape bytes a → HasContent shape bytes b → a ≡ b
-one_book shape bytes a b small (inl one) (inl other) = one_content bytes a b one other
-one_book shape bytes a b small (inl one) (inr two) = absurd (not_two shape bytes b two (ap (take 8) one.is))
-one_book shape bytes a b small (inr two) (inl one) = absurd (not_two shape bytes a two (ap (take 8) one.is))
-one_book shape bytes a b small (inr two) (inr other) =
-    let whole : header_of_two ++ two.switch ∷ two.areas ≡ header_of_two ++ other.switch ∷ other.areas = sym two.is ∙ other.is in
+-- and so have two areas
+one_two : (shape : Shape) (bytes : List ℕ) (a b : List (List ℕ)) → shape.capacity < 2 ^ 64 → HasTwo shape bytes a → HasTwo shape bytes b → a ≡ b
+one_two shape bytes a b small two other =
+    let whole : header_of_two shape.header ++ two.switch ∷ two.areas ≡ header_of_two shape.header ++ other.switch ∷ other.areas = sym two.is ∙ other.is in
     let switch : two.switch ≡ other.switch = ap (λ l. get_or l 8 0) whole in
     let areas : two.areas ≡ other.areas = ap (drop 9) whole in
     same two.live (subst (λ s. IsLive shape s two.areas b) (sym switch) (subst (λ l. IsLive shape other.switch l b) (sym areas) other.live))
@@ -186,3 +190,13 @@ one_book shape bytes a b small (inr two) (inr other) =
     same (inl x) (inr y) = absurd (x.0 y.0)
     same (inr x) (inl y) = absurd (y.0 x.0)
     same (inr x) (inr y) = one_area_content shape (drop (area_size shape) two.areas) a b small x.1 y.1
+
+-- and a book, whose header tells the format
+pub one_book : (capacity sites : ℕ) (header other : Format) (bytes : List ℕ) (a b : List (List ℕ)) → capacity < 2 ^ 64
+    → HasContent (shape_by capacity sites header) bytes a → HasContent (shape_by capacity sites other) bytes b → (header ≡ other) × (a ≡ b)
+one_book capacity sites header other bytes a b small (inl x) (inl y) = one_content bytes header other a b x y
+one_book capacity sites header other bytes a b small (inl x) (inr y) = absurd (headers_differ bytes (records a ++ x.gate ∷ x.rest) (y.switch ∷ y.areas) header other x.is y.is)
+one_book capacity sites header other bytes a b small (inr x) (inl y) = absurd (headers_differ bytes (records b ++ y.gate ∷ y.rest) (x.switch ∷ x.areas) other header y.is x.is)
+one_book capacity sites header other bytes a b small (inr x) (inr y) =
+    let same = one_header bytes (x.switch ∷ x.areas) (y.switch ∷ y.areas) header other x.is y.is in
+    (same, one_two (shape_by capacity sites other) bytes a b small (subst (λ h. HasTwo (shape_by capacity sites h) bytes a) same x) y)

@@ -1,36 +1,40 @@
 -- No bytes are a book and foreign or damaged, and damaged bytes are so at one place with one length.
 use Rattle.std.proofs.Common.{◌≡◌, ◌≢◌, ◌⊎◌, inl, inr, ⊎_elim, ◌+◌, ◌-◌, ◌<◌, ◌≤◌, ◌^◌, ℕ, List, [], ◌∷◌, ◌++◌, length, take, drop, get_or, All, refl, sym, ap, subst, ◌∙◌, arith, append_assoc, length-append}
 use Rattle.std.proofs.lemmas.List.{length-take}
-use Rattle.walter_journal.specs.Layout.{header, records, span_of, IsShort, HasBehind, IsDamagedBehind}
-use Rattle.walter_journal.specs.Layout as journal
-use Rattle.walter_journal.proofs.Layouts.{same_layout, closed_ends, damage_ends, not_damaged, one_damage, span_is}
+use Rattle.walter_base.specs.declared.format.Format.{Format}
+use Rattle.walter_base.specs.Sizes.{most_in}
+use Rattle.walter_journal.specs.Layout.{header_in, records, IsShort, HasBehind, IsDamagedBehind}
+use Rattle.walter_journal.proofs.Layouts.{same_layout, closed_ends, damage_ends, not_damaged, one_damage, one_damage_behind, span_is}
 use Rattle.walter_checkpoint.specs.Packs.{pack_of}
-use Rattle.walter_checkpoint.specs.Areas.{Shape, area_size, header_of_two, HasArea, IsLive, HasContent, IsForeign, HasNoPack, IsToldLength, IsAreaDamaged, IsDamaged}
-use Rattle.walter_checkpoint.proofs.Contents.{same_pack}
+use Rattle.walter_checkpoint.specs.Areas.{Shape, shape_by, area_size, header_of_two, HasArea, IsLive, HasTwo, HasContent, IsForeign, HasNoPack, IsToldLength, IsAreaDamaged, IsTwoDamaged, IsDamaged}
+use Rattle.walter_checkpoint.specs.Faults.{IsDamagedBook}
+use Rattle.walter_checkpoint.proofs.Contents.{same_pack, headers_differ, one_header}
 use Rattle.walter_checkpoint.proofs.Spelled.{take_both}
 
-headers_differ : (bytes one two : List ℕ) → bytes ≡ header ++ one → bytes ≡ header_of_two ++ two → ⊥
-headers_differ bytes one two is_one is_two = omega (arith, ap (λ l. get_or l 6 0) (sym is_one ∙ is_two))
+-- bytes with a header of either kind and a byte behind it
+not_foreign_one : (capacity sites : ℕ) (header : Format) (bytes rest : List ℕ) → sites ≤ most_in header → bytes ≡ header_in header ++ rest → 0 < length rest → IsForeign capacity sites bytes → ⊥
+not_foreign_one capacity sites header bytes rest places is more (inl few) = omega (arith, ap length is, more, few)
+not_foreign_one capacity sites header bytes rest places is more (inr other) = (other header places).0 (ap (take 8) is)
 
--- bytes with either header and a byte behind it
-not_foreign_one : (shape : Shape) (bytes rest : List ℕ) → bytes ≡ header ++ rest → 0 < length rest → IsForeign shape bytes → ⊥
-not_foreign_one shape bytes rest is more (inl few) = omega (arith, ap length is, more, few)
-not_foreign_one shape bytes rest is more (inr other) = other.0 (ap (take 8) is)
-
-not_foreign_two : (shape : Shape) (bytes rest : List ℕ) → bytes ≡ header_of_two ++ rest → 0 < length rest → 47 ≤ shape.capacity → IsForeign shape bytes → ⊥
-not_foreign_two shape bytes rest is more least (inl few) = omega (arith, ap length is, more, few)
-not_foreign_two shape bytes rest is more least (inr other) = ⊎_elim (λ differ. differ (ap (take 8) is)) (λ less. omega (arith, less, least)) other.1
+not_foreign_two : (capacity sites : ℕ) (header : Format) (bytes rest : List ℕ) → sites ≤ most_in header → bytes ≡ header_of_two header ++ rest → 0 < length rest → 47 ≤ capacity → IsForeign capacity sites bytes → ⊥
+not_foreign_two capacity sites header bytes rest places is more least (inl few) = omega (arith, ap length is, more, few)
+not_foreign_two capacity sites header bytes rest places is more least (inr other) = ⊎_elim (λ differ. differ (ap (take 8) is)) (λ less. omega (arith, less, least)) (other header places).1
 
 some_behind : (xs ys : List ℕ) (x : ℕ) → 0 < length (xs ++ x ∷ ys)
 some_behind xs ys x = omega (arith, length-append xs (x ∷ ys))
 
-pub content_or_foreign : (shape : Shape) (bytes : List ℕ) (bodies : List (List ℕ)) → HasContent shape bytes bodies → IsForeign shape bytes → ⊥
-content_or_foreign shape bytes bodies (inl one) foreign = not_foreign_one shape bytes (records bodies ++ one.gate ∷ one.rest) one.is (some_behind (records bodies) one.rest one.gate) foreign
-content_or_foreign shape bytes bodies (inr two) foreign = not_foreign_two shape bytes (two.switch ∷ two.areas) two.is (omega arith) two.least foreign
+pub content_or_foreign : (shape : Shape) (bytes : List ℕ) (bodies : List (List ℕ)) → shape.sites ≤ most_in shape.header → HasContent shape bytes bodies → IsForeign shape.capacity shape.sites bytes → ⊥
+content_or_foreign shape bytes bodies places (inl one) foreign =
+    not_foreign_one shape.capacity shape.sites shape.header bytes (records bodies ++ one.gate ∷ one.rest) places one.is (some_behind (records bodies) one.rest one.gate) foreign
+content_or_foreign shape bytes bodies places (inr two) foreign =
+    not_foreign_two shape.capacity shape.sites shape.header bytes (two.switch ∷ two.areas) places two.is (omega arith) two.least foreign
 
-pub foreign_or_damaged : (shape : Shape) (bytes : List ℕ) (at claimed : ℕ) → IsForeign shape bytes → IsDamaged shape bytes at claimed → ⊥
-foreign_or_damaged shape bytes at claimed foreign (inl one) = not_foreign_one shape bytes (records one.bodies ++ 1 ∷ one.behind) one.is (some_behind (records one.bodies) one.behind 1) foreign
-foreign_or_damaged shape bytes at claimed foreign (inr two) = not_foreign_two shape bytes (two.switch ∷ two.areas) two.is (omega arith) two.least foreign
+pub foreign_or_damaged : (capacity sites : ℕ) (bytes : List ℕ) (at claimed : ℕ) → IsForeign capacity sites bytes → IsDamagedBook capacity sites bytes at claimed → ⊥
+foreign_or_damaged capacity sites bytes at claimed foreign book = by book.damaged
+  where
+    by : IsDamaged (shape_by capacity sites book.header) bytes at claimed → ⊥
+    by (inl one) = not_foreign_one capacity sites book.header bytes (records one.bodies ++ 1 ∷ one.behind) book.places one.is (some_behind (records one.bodies) one.behind 1) foreign
+    by (inr two) = not_foreign_two capacity sites book.header bytes (two.switch ∷ two.areas) book.places two.is (omega arith) two.least foreign
 
 -- an area with bodies has them within its size
 within_size : (shape : Shape) (bytes : List ℕ) (bodies : List (List ℕ)) (area : HasArea shape bytes bodies) → HasBehind (pack_of shape.sites area.packed) (take (area_size shape) bytes) area.behind
@@ -65,7 +69,7 @@ not_wrong sites area packed behind at claimed small short content (inr wrong) =
     let packs = same_pack sites packed wrong.packed (records behind ++ content.gate ∷ content.rest) (records damage.bodies ++ 1 ∷ damage.behind) short wrong.short
     (omega (arith, small, ap length first, length-append (pack_of sites packed) (records behind ++ content.gate ∷ content.rest)))
     (omega (arith, small, ap length second, length-append (pack_of sites wrong.packed) (records damage.bodies ++ 1 ∷ damage.behind))) (sym first ∙ second) in
-    let gates = same_layout behind damage.bodies (content.gate ∷ content.rest) (1 ∷ damage.behind) content.fit damage.fit (closed_ends _ _ content.closed) (damage_ends _ _ damage.wrong) (ap (λ l. header ++ l) packs.1) in
+    let gates = same_layout [] behind damage.bodies (content.gate ∷ content.rest) (1 ∷ damage.behind) content.fit damage.fit (closed_ends _ _ content.closed) (damage_ends _ _ damage.wrong) packs.1 in
     content.closed (ap (λ l. get_or l 0 0) gates.1)
 
 length-taken : (shape : Shape) (bytes : List ℕ) → shape.capacity < 2 ^ 64 → length (take (area_size shape) bytes) < 2 ^ 64
@@ -75,12 +79,10 @@ area_or_damaged : (shape : Shape) (bytes : List ℕ) (bodies : List (List ℕ)) 
 area_or_damaged shape bytes bodies at claimed small area damaged =
     not_wrong shape.sites (take (area_size shape) bytes) area.packed area.behind at claimed (length-taken shape bytes small) area.short (within_size shape bytes bodies area) damaged
 
-pub content_or_damaged : (shape : Shape) (bytes : List ℕ) (bodies : List (List ℕ)) (at claimed : ℕ) → shape.capacity < 2 ^ 64 → HasContent shape bytes bodies → IsDamaged shape bytes at claimed → ⊥
-content_or_damaged shape bytes bodies at claimed small (inl one) (inl damaged) = not_damaged bytes bodies at claimed one damaged
-content_or_damaged shape bytes bodies at claimed small (inl one) (inr two) = headers_differ bytes (records bodies ++ one.gate ∷ one.rest) (two.switch ∷ two.areas) one.is two.is
-content_or_damaged shape bytes bodies at claimed small (inr two) (inl one) = headers_differ bytes (records one.bodies ++ 1 ∷ one.behind) (two.switch ∷ two.areas) one.is two.is
-content_or_damaged shape bytes bodies at claimed small (inr two) (inr damaged) =
-    let whole : header_of_two ++ two.switch ∷ two.areas ≡ header_of_two ++ damaged.switch ∷ damaged.areas = sym two.is ∙ damaged.is in
+-- two areas aren't damaged where they have bodies
+two_or_damaged : (shape : Shape) (bytes : List ℕ) (bodies : List (List ℕ)) (at claimed : ℕ) → shape.capacity < 2 ^ 64 → HasTwo shape bytes bodies → IsTwoDamaged shape bytes at claimed → ⊥
+two_or_damaged shape bytes bodies at claimed small two damaged =
+    let whole : header_of_two shape.header ++ two.switch ∷ two.areas ≡ header_of_two shape.header ++ damaged.switch ∷ damaged.areas = sym two.is ∙ damaged.is in
     let switch : two.switch ≡ damaged.switch = ap (λ l. get_or l 8 0) whole in
     let areas : two.areas ≡ damaged.areas = ap (drop 9) whole in
     differ (subst (λ s. IsLive shape s damaged.areas bodies) switch (subst (λ l. IsLive shape two.switch l bodies) areas two.live)) damaged.live
@@ -92,6 +94,19 @@ content_or_damaged shape bytes bodies at claimed small (inr two) (inr damaged) =
     differ (inl x) (inr y) = x.0 y.0
     differ (inr x) (inl y) = y.0 x.0
     differ (inr x) (inr y) = area_or_damaged shape (drop (area_size shape) damaged.areas) bodies damaged.place claimed small x.1 y.2
+
+-- and so no book is
+pub content_or_damaged : (capacity sites : ℕ) (header : Format) (bytes : List ℕ) (bodies : List (List ℕ)) (at claimed : ℕ) → capacity < 2 ^ 64 → HasContent (shape_by capacity sites header) bytes bodies
+    → IsDamagedBook capacity sites bytes at claimed → ⊥
+content_or_damaged capacity sites header bytes bodies at claimed small content book = by content book.damaged
+  where
+    by : HasContent (shape_by capacity sites header) bytes bodies → IsDamaged (shape_by capacity sites book.header) bytes at claimed → ⊥
+    by (inl one) (inl damaged) = not_damaged bytes header book.header bodies at claimed one damaged
+    by (inl one) (inr two) = headers_differ bytes (records bodies ++ one.gate ∷ one.rest) (two.switch ∷ two.areas) header book.header one.is two.is
+    by (inr two) (inl one) = headers_differ bytes (records one.bodies ++ 1 ∷ one.behind) (two.switch ∷ two.areas) book.header header one.is two.is
+    by (inr two) (inr damaged) =
+        let same = one_header bytes (two.switch ∷ two.areas) (damaged.switch ∷ damaged.areas) header book.header two.is damaged.is in
+        two_or_damaged (shape_by capacity sites book.header) bytes bodies at claimed small (subst (λ h. HasTwo (shape_by capacity sites h) bytes bodies) same two) damaged
 
 -- the area that the switch byte makes live is damaged at this place in it
 abbrev Wrong : Shape → ℕ → List ℕ → ℕ → ℕ → ℕ → Type 0
@@ -120,21 +135,18 @@ one_wrong sites area at claimed at' claimed' small (inr x) (inr y) =
     let first : area ≡ pack_of sites x.packed ++ tail = x.wrong.is ∙ append_assoc (pack_of sites x.packed) (records x.wrong.bodies) (1 ∷ x.wrong.behind) in
     let second : area ≡ pack_of sites y.packed ++ other = y.wrong.is ∙ append_assoc (pack_of sites y.packed) (records y.wrong.bodies) (1 ∷ y.wrong.behind) in
     let packs = same_pack sites x.packed y.packed tail other x.short y.short (omega (arith, small, ap length first, length-append (pack_of sites x.packed) tail)) (omega (arith, small, ap length second, length-append (pack_of sites y.packed) other)) (sym first ∙ second) in
-    let damage : journal.IsDamaged (header ++ tail) (length (header ++ records x.wrong.bodies)) claimed = record { bodies = x.wrong.bodies; behind = x.wrong.behind; is = refl; fit = x.wrong.fit; place = refl; wrong = x.wrong.wrong } in
-    let damage' : journal.IsDamaged (header ++ other) (length (header ++ records y.wrong.bodies)) claimed' = record { bodies = y.wrong.bodies; behind = y.wrong.behind; is = refl; fit = y.wrong.fit; place = refl; wrong = y.wrong.wrong } in
-    let same = one_damage (header ++ other) _ claimed _ claimed' (subst (λ l. journal.IsDamaged (header ++ l) (length (header ++ records x.wrong.bodies)) claimed) packs.1 damage) damage' in
-    let counts : length (records x.wrong.bodies) ≡ length (records y.wrong.bodies) = omega (arith, same.0) in
+    let damage : IsDamagedBehind [] tail (length (records x.wrong.bodies)) claimed = record { bodies = x.wrong.bodies; behind = x.wrong.behind; is = refl; fit = x.wrong.fit; place = refl; wrong = x.wrong.wrong } in
+    let damage' : IsDamagedBehind [] other (length (records y.wrong.bodies)) claimed' = record { bodies = y.wrong.bodies; behind = y.wrong.behind; is = refl; fit = y.wrong.fit; place = refl; wrong = y.wrong.wrong } in
+    let same = one_damage_behind [] other (length (records x.wrong.bodies)) claimed (length (records y.wrong.bodies)) claimed' (subst (λ l. IsDamagedBehind [] l (length (records x.wrong.bodies)) claimed) packs.1 damage) damage' in
+    let counts : length (records x.wrong.bodies) ≡ length (records y.wrong.bodies) = same.0 in
     let sizes : length (pack_of sites x.packed) ≡ length (pack_of sites y.packed) = ap (λ l. length (pack_of sites l)) packs.0 in (
       omega (arith, x.wrong.place, y.wrong.place, length-append (pack_of sites x.packed) (records x.wrong.bodies), length-append (pack_of sites y.packed) (records y.wrong.bodies), counts, sizes),
       same.1,
     )
 
-pub one_damaged : (shape : Shape) (bytes : List ℕ) (at claimed at' claimed' : ℕ) → shape.capacity < 2 ^ 64 → IsDamaged shape bytes at claimed → IsDamaged shape bytes at' claimed' → (at ≡ at') × (claimed ≡ claimed')
-one_damaged shape bytes at claimed at' claimed' small (inl one) (inl other) = one_damage bytes at claimed at' claimed' one other
-one_damaged shape bytes at claimed at' claimed' small (inl one) (inr two) = absurd (headers_differ bytes (records one.bodies ++ 1 ∷ one.behind) (two.switch ∷ two.areas) one.is two.is)
-one_damaged shape bytes at claimed at' claimed' small (inr two) (inl one) = absurd (headers_differ bytes (records one.bodies ++ 1 ∷ one.behind) (two.switch ∷ two.areas) one.is two.is)
-one_damaged shape bytes at claimed at' claimed' small (inr two) (inr other) =
-    let whole : header_of_two ++ two.switch ∷ two.areas ≡ header_of_two ++ other.switch ∷ other.areas = sym two.is ∙ other.is in
+one_two_damaged : (shape : Shape) (bytes : List ℕ) (at claimed at' claimed' : ℕ) → shape.capacity < 2 ^ 64 → IsTwoDamaged shape bytes at claimed → IsTwoDamaged shape bytes at' claimed' → (at ≡ at') × (claimed ≡ claimed')
+one_two_damaged shape bytes at claimed at' claimed' small two other =
+    let whole : header_of_two shape.header ++ two.switch ∷ two.areas ≡ header_of_two shape.header ++ other.switch ∷ other.areas = sym two.is ∙ other.is in
     let switch : two.switch ≡ other.switch = ap (λ l. get_or l 8 0) whole in
     let areas : two.areas ≡ other.areas = ap (drop 9) whole in
     same (subst (λ s. Wrong shape s other.areas two.place at claimed) switch (subst (λ l. Wrong shape two.switch l two.place at claimed) areas two.live)) other.live
@@ -148,3 +160,14 @@ one_damaged shape bytes at claimed at' claimed' small (inr two) (inr other) =
     same (inr x) (inr y) =
         let one = one_wrong shape.sites (take (area_size shape) (drop (area_size shape) other.areas)) two.place claimed other.place claimed' (length-taken shape (drop (area_size shape) other.areas) small) x.2 y.2 in
         (omega (arith, x.1, y.1, one.0), one.1)
+
+pub one_damaged : (capacity sites : ℕ) (bytes : List ℕ) (at claimed at' claimed' : ℕ) → capacity < 2 ^ 64 → IsDamagedBook capacity sites bytes at claimed → IsDamagedBook capacity sites bytes at' claimed' → (at ≡ at') × (claimed ≡ claimed')
+one_damaged capacity sites bytes at claimed at' claimed' small book book' = by book.damaged book'.damaged
+  where
+    by : IsDamaged (shape_by capacity sites book.header) bytes at claimed → IsDamaged (shape_by capacity sites book'.header) bytes at' claimed' → (at ≡ at') × (claimed ≡ claimed')
+    by (inl one) (inl other) = one_damage bytes book.header book'.header at claimed at' claimed' one other
+    by (inl one) (inr two) = absurd (headers_differ bytes (records one.bodies ++ 1 ∷ one.behind) (two.switch ∷ two.areas) book.header book'.header one.is two.is)
+    by (inr two) (inl one) = absurd (headers_differ bytes (records one.bodies ++ 1 ∷ one.behind) (two.switch ∷ two.areas) book'.header book.header one.is two.is)
+    by (inr two) (inr other) =
+        let same = one_header bytes (two.switch ∷ two.areas) (other.switch ∷ other.areas) book.header book'.header two.is other.is in
+        one_two_damaged (shape_by capacity sites book'.header) bytes at claimed at' claimed' small (subst (λ h. IsTwoDamaged (shape_by capacity sites h) bytes at claimed) same two) other

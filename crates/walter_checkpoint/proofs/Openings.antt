@@ -3,8 +3,9 @@ use Rattle.std.proofs.Common.{◌≡◌, ◌≢◌, ⊎_elim, ◌+◌, ◌-◌, 
 use Rattle.std.specs.Prelude.{IfSome, option_map}
 use Rattle.std.proofs.lemmas.List.{append-nil, length-map, get_or-map, drop_all, take_all, drop-replicate, length-replicate, replicate-append-replicate}
 use Rattle.std.proofs.lemmas.List.Elements.{All-append, All-nil}
+use Rattle.walter_base.specs.declared.format.Format.{Format}
 use Rattle.walter_disk.specs.Disks.{DiskState, laid, written}
-use Rattle.walter_journal.specs.Layout.{header, span_of, IsShort}
+use Rattle.walter_journal.specs.Layout.{header_in, span_of, IsShort}
 use Rattle.walter_journal.specs.Zeros.{zeros, filled, filled_disk}
 use Rattle.walter_checkpoint.specs.Areas.{Shape, area_size, header_of_two}
 use Rattle.walter_checkpoint.specs.Books.{front_length, IsFront, IsRead}
@@ -52,45 +53,45 @@ if_told None bytes is = tt
 if_told (Some told) bytes is = sym is
 
 -- the bytes of a new book of two areas
-pub two_begun : (old new : DiskState) (front head rest : List ℕ) (n to : ℕ) → IfSome old.reads (λ bytes. old.size ≡ length bytes) → old.size ≡ 0 → new ≡ filled_disk to (written 0 front old)
-    → rest ≡ zeros n → head ≡ header_of_two → front ≡ head ++ take (length rest - 8) (drop 8 rest) → 8 ≤ n → n ≤ to → IfSome new.reads (λ bytes. bytes ≡ header_of_two ++ zeros (to - 8))
-two_begun old new front head rest n to size none is rest_is head_is front_is least most =
-    subst (λ (disk : DiskState). IfSome disk.reads (λ bytes. bytes ≡ header_of_two ++ zeros (to - 8))) (sym is) (by old.reads size)
+pub two_begun : (format : Format) (old new : DiskState) (front head rest : List ℕ) (n to : ℕ) → IfSome old.reads (λ bytes. old.size ≡ length bytes) → old.size ≡ 0 → new ≡ filled_disk to (written 0 front old)
+    → rest ≡ zeros n → head ≡ header_of_two format → front ≡ head ++ take (length rest - 8) (drop 8 rest) → 8 ≤ n → n ≤ to → IfSome new.reads (λ bytes. bytes ≡ header_of_two format ++ zeros (to - 8))
+two_begun format old new front head rest n to size none is rest_is head_is front_is least most =
+    subst (λ (disk : DiskState). IfSome disk.reads (λ bytes. bytes ≡ header_of_two format ++ zeros (to - 8))) (sym is) (by old.reads size)
   where
     count : length rest ≡ n
     count = ap length rest_is ∙ length-replicate {A = ℕ} n 0
 
-    first : front ≡ header_of_two ++ zeros (n - 8)
+    first : front ≡ header_of_two format ++ zeros (n - 8)
     first =
-        front_is ∙ ap (λ l. l ++ take (length rest - 8) (drop 8 rest)) head_is ∙ ap (λ l. header_of_two ++ l)
+        front_is ∙ ap (λ l. l ++ take (length rest - 8) (drop 8 rest)) head_is ∙ ap (λ l. header_of_two format ++ l)
         (ap (λ l. take (length rest - 8) (drop 8 l)) rest_is ∙ ap (take (length rest - 8)) (drop-replicate 8 n 0) ∙ take_all (length rest - 8) (zeros (n - 8)) (omega (arith, count, length-replicate {A = ℕ} (n - 8) 0)))
 
     front_size : length front ≡ n
     front_size = ap length first ∙ omega (arith, length-replicate {A = ℕ} (n - 8) 0, least)
 
-    all : filled to front ≡ header_of_two ++ zeros (to - 8)
+    all : filled to front ≡ header_of_two format ++ zeros (to - 8)
     all =
         ap (λ m. front ++ zeros (to - m)) front_size ∙ ap (λ l. l ++ zeros (to - n)) first
-        ∙ ap (λ l. header_of_two ++ l) (replicate-append-replicate (n - 8) (to - n) 0 ∙ ap zeros (omega (arith, least, most)))
+        ∙ ap (λ l. header_of_two format ++ l) (replicate-append-replicate (n - 8) (to - n) 0 ∙ ap zeros (omega (arith, least, most)))
 
-    by : (reads : Option (List ℕ)) → IfSome reads (λ bytes. old.size ≡ length bytes) → IfSome (option_map (filled to) (option_map (laid 0 front) reads)) (λ bytes. bytes ≡ header_of_two ++ zeros (to - 8))
+    by : (reads : Option (List ℕ)) → IfSome reads (λ bytes. old.size ≡ length bytes) → IfSome (option_map (filled to) (option_map (laid 0 front) reads)) (λ bytes. bytes ≡ header_of_two format ++ zeros (to - 8))
     by None told = tt
     by (Some []) told = ap (filled to) (ap (λ l. front ++ l) (drop_all (0 + length front) [] (omega arith)) ∙ append-nil front) ∙ all
     by (Some (x ∷ bytes)) told = absurd (omega (arith, told, none))
 
-pub new_two : (shape : Shape) → 47 ≤ shape.capacity → IsRead shape A (header_of_two ++ zeros (1 + area_size shape)) [] 18
+pub new_two : (shape : Shape) → 47 ≤ shape.capacity → IsRead shape A (header_of_two shape.header ++ zeros (1 + area_size shape)) [] 18
 new_two shape least = record {
   packed = [];
   behind = [];
   are = refl;
-  front = header_of_two ++ 0 ∷ zeros 8;
+  front = header_of_two shape.header ++ 0 ∷ zeros 8;
   is_front = (0, zero_not_one, refl);
   short = All-nil IsShort;
   within = (least, omega (arith, least));
   content = record {
     gate = 0;
     rest = zeros (area_size shape - 9);
-    is = ap (λ l. header_of_two ++ l) (ap zeros (omega (arith, least)) ∙ sym (replicate-append-replicate 10 (area_size shape - 9) 0));
+    is = ap (λ l. header_of_two shape.header ++ l) (ap zeros (omega (arith, least)) ∙ sym (replicate-append-replicate 10 (area_size shape - 9) 0));
     closed = zero_not_one;
     fit = All-nil IsShort;
   };
@@ -100,12 +101,12 @@ new_two shape least = record {
     zero_not_one : ◌≢◌ {A = ℕ} 0 1
     zero_not_one e = omega (arith, e)
 
-pub new_one : (shape : Shape) → IsRead shape Whole (header ++ 0 ∷ []) [] 9
+pub new_one : (shape : Shape) → IsRead shape Whole (header_in shape.header ++ 0 ∷ []) [] 9
 new_one shape = record {
   packed = [];
   behind = [];
   are = refl;
-  front = header;
+  front = header_in shape.header;
   is_front = (refl, refl);
   short = All-nil IsShort;
   within = tt;

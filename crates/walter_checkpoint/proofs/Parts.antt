@@ -33,21 +33,21 @@ behind_more more front bytes bodies content = record {
   fit = content.fit;
 }
 
-module _ (shape : Shape) (bytes : List ℕ) (least : 47 ≤ shape.capacity) (long : 8 < length bytes) (header : take 8 bytes ≡ header_of_two) where
+module _ (shape : Shape) (bytes : List ℕ) (least : 47 ≤ shape.capacity) (long : 8 < length bytes) (header : take 8 bytes ≡ header_of_two shape.header) where
   abbrev switch : ℕ
   switch = get_or bytes 8 0
 
   abbrev areas : List ℕ
   areas = drop 9 bytes
 
-  whole : bytes ≡ header_of_two ++ switch ∷ areas
-  whole = sym (take-append-drop 8 bytes) ∙ ap (λ l. l ++ drop 8 bytes) header ∙ ap (λ l. header_of_two ++ l) (drop_more bytes 8 0 long)
+  whole : bytes ≡ header_of_two shape.header ++ switch ∷ areas
+  whole = sym (take-append-drop 8 bytes) ∙ ap (λ l. l ++ drop 8 bytes) header ∙ ap (λ l. header_of_two shape.header ++ l) (drop_more bytes 8 0 long)
 
   -- area A as it is read
   read_a : (bodies : List (List ℕ)) (end : ℕ) → switch ≢ 1 → IsAreaRead shape.sites (take (area_size shape) (drop 9 bytes)) bodies end → IsRead shape A bytes bodies (9 + end)
   read_a bodies end not_one read =
       let pack = pack_of shape.sites read.packed in
-      let front = header_of_two ++ switch ∷ [] in
+      let front = header_of_two shape.header ++ switch ∷ [] in
       let within = behind_within pack (take (area_size shape) areas) read.behind read.content in
       let content = behind_more front pack (take (area_size shape) areas ++ drop (area_size shape) areas) read.behind (behind_longer pack (take (area_size shape) areas) (drop (area_size shape) areas) read.behind read.content) in
       record {
@@ -70,10 +70,10 @@ module _ (shape : Shape) (bytes : List ℕ) (least : 47 ≤ shape.capacity) (lon
       let area = take a (drop (9 + a) bytes) in
       let within = behind_within pack area read.behind read.content in
       let size_first : length (take a areas) ≡ a = omega (arith, within, length-take a (drop (9 + a) bytes), length-drop (9 + a) bytes, length-take a areas, length-drop 9 bytes) in
-      let front = header_of_two ++ 1 ∷ take a areas in
+      let front = header_of_two shape.header ++ 1 ∷ take a areas in
       let rest : area ++ drop a (drop (9 + a) bytes) ≡ drop a areas = take-append-drop a (drop (9 + a) bytes) ∙ sym (drop-drop a 9 bytes) in
       let content = behind_more front pack (area ++ drop a (drop (9 + a) bytes)) read.behind (behind_longer pack area (drop a (drop (9 + a) bytes)) read.behind read.content) in
-      let all : front ++ (area ++ drop a (drop (9 + a) bytes)) ≡ bytes = ap (λ l. front ++ l) rest ∙ ap (λ l. header_of_two ++ 1 ∷ l) (take-append-drop a areas) ∙ ap (λ s. header_of_two ++ s ∷ areas) (sym is_one) ∙ sym whole in
+      let all : front ++ (area ++ drop a (drop (9 + a) bytes)) ≡ bytes = ap (λ l. front ++ l) rest ∙ ap (λ l. header_of_two shape.header ++ 1 ∷ l) (take-append-drop a areas) ∙ ap (λ s. header_of_two shape.header ++ s ∷ areas) (sym is_one) ∙ sym whole in
       record {
         packed = read.packed;
         behind = read.behind;

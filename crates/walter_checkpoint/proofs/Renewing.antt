@@ -26,7 +26,7 @@ content_two shape Whole packed behind front bytes not_whole is short within cont
 content_two shape A packed behind front bytes not_whole is short within content =
     let pack = pack_of shape.sites packed in
     let areas = pack ++ records behind ++ content.gate ∷ content.rest in
-    let whole : bytes ≡ header_of_two ++ is.0 ∷ areas = content.is ∙ ap (λ f. f ++ records behind ++ content.gate ∷ content.rest) is.2 in
+    let whole : bytes ≡ header_of_two shape.header ++ is.0 ∷ areas = content.is ∙ ap (λ f. f ++ records behind ++ content.gate ∷ content.rest) is.2 in
     let area : HasArea shape areas (packed ++ behind) = record {
       packed = packed;
       behind = behind;
@@ -40,7 +40,7 @@ content_two shape B packed behind front bytes not_whole is short within content 
     let pack = pack_of shape.sites packed in
     let tail = pack ++ records behind ++ content.gate ∷ content.rest in
     let areas = (is.0 ++ pack) ++ records behind ++ content.gate ∷ content.rest in
-    let whole : bytes ≡ header_of_two ++ 1 ∷ areas = content.is ∙ ap (λ f. f ++ records behind ++ content.gate ∷ content.rest) is.2 in
+    let whole : bytes ≡ header_of_two shape.header ++ 1 ∷ areas = content.is ∙ ap (λ f. f ++ records behind ++ content.gate ∷ content.rest) is.2 in
     let split : areas ≡ is.0 ++ tail =
     ap (λ l. l ++ content.gate ∷ content.rest) (append_assoc is.0 pack (records behind)) ∙ append_assoc is.0 (pack ++ records behind) (content.gate ∷ content.rest) in
     let second : drop (area_size shape) areas ≡ tail = ap (drop (area_size shape)) split ∙ drop_at is.0 tail (area_size shape) is.1 in
@@ -92,8 +92,8 @@ renewed_at shape bytes bodies live other is within both = by is
     rest : List ℕ
     rest = drop (other.at + length over) bytes
 
-    switched : (s : ℕ) → laid 8 (s ∷ []) image ≡ header_of_two ++ s ∷ both.areas
-    switched s = ap (laid 8 (s ∷ [])) both.is ∙ laid_gate header_of_two both.areas both.switch s 8 refl
+    switched : (s : ℕ) → laid 8 (s ∷ []) image ≡ header_of_two shape.header ++ s ∷ both.areas
+    switched s = ap (laid 8 (s ∷ [])) both.is ∙ laid_gate (header_of_two shape.header) both.areas both.switch s 8 refl
 
     areas_are : drop 9 image ≡ both.areas
     areas_are = ap (drop 9) both.is
@@ -111,7 +111,7 @@ renewed_at shape bytes bodies live other is within both = by is
         let first = take (area_size shape) both.areas in
         let long_areas : area_size shape ≤ length both.areas = omega (arith, ap length second, length-drop (area_size shape) both.areas, length-append pack (0 ∷ rest)) in
         let size_first : length first ≡ area_size shape = omega (arith, length-take (area_size shape) both.areas, long_areas) in
-        let front = header_of_two ++ 1 ∷ (first ++ pack) in
+        let front = header_of_two shape.header ++ 1 ∷ (first ++ pack) in
         let areas_split : both.areas ≡ (first ++ pack) ++ 0 ∷ rest =
         sym (take-append-drop (area_size shape) both.areas) ∙ ap (λ l. first ++ l) second ∙ sym (append_assoc first pack (0 ∷ rest)) in
         record {
@@ -120,7 +120,7 @@ renewed_at shape bytes bodies live other is within both = by is
           content = record {
             gate = 0;
             rest = rest;
-            is = ap (λ s. laid 8 (s ∷ []) image) a.2 ∙ switched 1 ∙ ap (λ l. header_of_two ++ 1 ∷ l) areas_split ∙ ap (λ l. l ++ 0 ∷ rest) (sym (append-nil front));
+            is = ap (λ s. laid 8 (s ∷ []) image) a.2 ∙ switched 1 ∙ ap (λ l. header_of_two shape.header ++ 1 ∷ l) areas_split ∙ ap (λ l. l ++ 0 ∷ rest) (sym (append-nil front));
             closed = omega arith;
             fit = All-nil IsShort;
           };
@@ -128,14 +128,14 @@ renewed_at shape bytes bodies live other is within both = by is
         }
     by (inr b) =
         let second : both.areas ≡ pack ++ 0 ∷ rest = sym areas_are ∙ ap (λ n. drop n image) (sym b.1) ∙ from in
-        let front = header_of_two ++ 0 ∷ pack in
+        let front = header_of_two shape.header ++ 0 ∷ pack in
         record {
           front = front;
           is_front = subst (λ l. IsFront shape l bodies front) (sym b.3) (0, zero_not_one, refl);
           content = record {
             gate = 0;
             rest = rest;
-            is = ap (λ s. laid 8 (s ∷ []) image) b.2 ∙ switched 0 ∙ ap (λ l. header_of_two ++ 0 ∷ l) second ∙ ap (λ l. l ++ 0 ∷ rest) (sym (append-nil front));
+            is = ap (λ s. laid 8 (s ∷ []) image) b.2 ∙ switched 0 ∙ ap (λ l. header_of_two shape.header ++ 0 ∷ l) second ∙ ap (λ l. l ++ 0 ∷ rest) (sym (append-nil front));
             closed = zero_not_one;
             fit = All-nil IsShort;
           };

@@ -4,6 +4,7 @@ use Rattle.std.proofs.Common.{◌≡◌, ◌≢◌, inl, inr, ⊎_elim, ◌+◌,
 use Rattle.std.proofs.lemmas.Bool.{cases_eq}
 use Rattle.std.proofs.lemmas.List.{take_at, take_all, drop_at, drop_all, length-replicate, length-take, length-drop, take-take, drop-drop, drop-take, append-nil}
 use Rattle.std.proofs.lemmas.List.Elements.{All-append, All-nil}
+use Rattle.walter_base.specs.declared.format.Format.{Format}
 use Rattle.walter_disk.specs.Disks.{laid}
 use Rattle.walter_disk.specs.Images.{Torn}
 use Rattle.walter_journal.specs.Layout.{records, span_of, IsShort}
@@ -52,14 +53,14 @@ unfolding only_front
 only_front_used shape bytes others bodies n area le same = refl
 
 -- what a write behind the switch byte leaves of the areas
-pub record LeavesAreas (switch k count : ℕ) (areas image : List ℕ) : Type 0 where
-  pub is : image ≡ header_of_two ++ switch ∷ drop 9 image
+pub record LeavesAreas (header : Format) (switch k count : ℕ) (areas image : List ℕ) : Type 0 where
+  pub is : image ≡ header_of_two header ++ switch ∷ drop 9 image
   pub before : take k (drop 9 image) ≡ take k areas
   pub behind : drop (k + count) (drop 9 image) ≡ drop (k + count) areas
 
-pub torn_areas : (switch k count at : ℕ) (areas bytes image : List ℕ) → bytes ≡ header_of_two ++ switch ∷ areas → at ≡ 9 + k → Torn at count bytes image → LeavesAreas switch k count areas image
-torn_areas switch k count at areas bytes image is place torn =
-    let front = header_of_two ++ switch ∷ [] in
+pub torn_areas : (header : Format) (switch k count at : ℕ) (areas bytes image : List ℕ) → bytes ≡ header_of_two header ++ switch ∷ areas → at ≡ 9 + k → Torn at count bytes image → LeavesAreas header switch k count areas image
+torn_areas header switch k count at areas bytes image is place torn =
+    let front = header_of_two header ++ switch ∷ [] in
     let start : take (9 + k) image ≡ take (9 + k) bytes = subst (λ n. take n image ≡ take n bytes) place torn.before in
     let nine : take 9 image ≡ front =
     sym (take-take 9 (9 + k) image (omega arith)) ∙ ap (take 9) start ∙ take-take 9 (9 + k) bytes (omega arith) ∙ ap (take 9) is in
@@ -80,8 +81,8 @@ pub torn_aside : (shape : Shape) (bytes image : List ℕ) (bodies : List (List �
 torn_aside shape bytes image bodies at count two aside torn =
     record { least = two.least; switch = two.switch; areas = drop 9 image; is = left.is; live = live two.live aside }
   where
-    left : LeavesAreas two.switch (at - 9) count two.areas image
-    left = torn_areas two.switch (at - 9) count at two.areas bytes image two.is (⊎_elim (λ a. omega (arith, a.1)) (λ b. omega (arith, b.1)) aside) torn
+    left : LeavesAreas shape.header two.switch (at - 9) count two.areas image
+    left = torn_areas shape.header two.switch (at - 9) count at two.areas bytes image two.is (⊎_elim (λ a. omega (arith, a.1)) (λ b. omega (arith, b.1)) aside) torn
 
     live : IsLive shape two.switch two.areas bodies → IsAside shape two.switch at count → IsLive shape two.switch (drop 9 image) bodies
     live (inl a) (inl here) =
@@ -100,8 +101,8 @@ torn_past shape bytes image bodies count two not_b torn =
     size : length bytes ≡ 9 + length two.areas
     size = omega (arith, ap length two.is)
 
-    left : LeavesAreas two.switch (length two.areas) count two.areas image
-    left = torn_areas two.switch (length two.areas) count (length bytes) two.areas bytes image two.is size torn
+    left : LeavesAreas shape.header two.switch (length two.areas) count two.areas image
+    left = torn_areas shape.header two.switch (length two.areas) count (length bytes) two.areas bytes image two.is size torn
 
     live : IsLive shape two.switch two.areas bodies → IsLive shape two.switch (drop 9 image) bodies
     live (inl a) =
@@ -191,8 +192,8 @@ laid_both shape bytes bodies at two aside within = both two.live aside
     image : List ℕ
     image = laid at over bytes
 
-    left : LeavesAreas two.switch (at - 9) (length over) two.areas image
-    left = torn_areas two.switch (at - 9) (length over) at two.areas bytes image two.is (⊎_elim (λ a. omega (arith, a.1)) (λ b. omega (arith, b.1)) aside) (laid_torn at over bytes within)
+    left : LeavesAreas shape.header two.switch (at - 9) (length over) two.areas image
+    left = torn_areas shape.header two.switch (at - 9) (length over) at two.areas bytes image two.is (⊎_elim (λ a. omega (arith, a.1)) (λ b. omega (arith, b.1)) aside) (laid_torn at over bytes within)
 
     new : (old : List ℕ) → HasArea shape old bodies → HasArea shape (drop at image) bodies
     new old area =
@@ -232,5 +233,5 @@ both_two shape bytes bodies both = record {
 
 pub torn_switch : (shape : Shape) (bytes image : List ℕ) (bodies : List (List ℕ)) → HasBoth shape bytes bodies → Torn 8 1 bytes image → HasBoth shape image bodies
 torn_switch shape bytes image bodies both torn =
-    let left = torn_gate header_of_two both.areas both.switch image 8 refl (subst (λ l. Torn 8 1 l image) both.is torn) in
+    let left = torn_gate (header_of_two shape.header) both.areas both.switch image 8 refl (subst (λ l. Torn 8 1 l image) both.is torn) in
     record { least = both.least; switch = left.0; areas = both.areas; is = left.1; first = both.first; second = both.second }

@@ -23,7 +23,7 @@ pub returns-clause-ok : goal.returns-clause-ok
 returns-clause-ok g c =
     let fits = read_fits _ _ _ _ _ c.requires.opened.read c.in_default.not-Whole in
     let is = c.in_ok-renewal.ensures ∙ ap (renewed_by c.args.sites) c.as_slice.ensures in
-    let place = other_is (shape_by c.args.capacity c.args.sites) c.args.found.now.live c.other_area-at.result c.other_area-at.ensures in
+    let place = other_is (shape_by c.args.capacity c.args.sites c.args.found.now.format) c.args.found.now.live c.other_area-at.result c.other_area-at.ensures in
     let count : length c.in_ok-zeros.zeros.items ≡ c.min.result = ap length c.in_ok-zeros.ensures ∙ length-replicate c.min.result 0 in
     let size = ap (λ (disk : DiskState). disk.size) c.in_ok-reserve.ensures.same in
     record {

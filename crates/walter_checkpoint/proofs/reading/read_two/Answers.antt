@@ -16,15 +16,19 @@ overflow_add-result c =
 
 pub returns-in-Ok-clause-ok : goal.returns-in-Ok-clause-ok
 returns-in-Ok-clause-ok c =
-    let shape = shape_by c.args.capacity c.args.sites in
+    let shape = shape_by c.args.capacity c.args.sites c.args.format in
     let read = subst (λ l. IsAreaRead c.args.sites l c.in-Ok.bodies c.in-Ok.end) c.part_of.ensures c.in-Ok.ensures.ok in
     read_live shape c.args.bytes.now c.requires.least c.requires.long c.requires.header c.live_part-live.result.0 c.live_part-live.result.1 c.in-Ok.bodies c.in-Ok.end c.live_part-live.ensures read
 
 pub returns-in-Err-Damaged-clause-fault : goal.returns-in-Err-Damaged-clause-fault
 returns-in-Err-Damaged-clause-fault c =
     let damaged = c.in-Err-Damaged in
-    let shape = shape_by c.args.capacity c.args.sites in
+    let shape = shape_by c.args.capacity c.args.sites c.args.format in
     let wrong : IsAreaDamaged c.args.sites c.part_of.result.now damaged.at damaged.length = rw damaged.field-0-is at damaged.ensures.fault in
     rw damaged.field-0-is
-    (damaged_live shape c.args.bytes.now c.requires.least c.requires.long c.requires.header c.live_part-live.result.0 c.live_part-live.result.1 damaged.at damaged.length c.live_part-live.ensures
-    (subst (λ l. IsAreaDamaged c.args.sites l damaged.at damaged.length) c.part_of.ensures wrong))
+    record {
+      header = c.args.format;
+      places = c.requires.places;
+      damaged = damaged_live shape c.args.bytes.now c.requires.least c.requires.long c.requires.header c.live_part-live.result.0 c.live_part-live.result.1 damaged.at damaged.length c.live_part-live.ensures
+          (subst (λ l. IsAreaDamaged c.args.sites l damaged.at damaged.length) c.part_of.ensures wrong);
+    }

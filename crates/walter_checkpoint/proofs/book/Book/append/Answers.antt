@@ -11,13 +11,13 @@ returns-in_err-append-clause-any_moment g c bodies stands =
     let new = record c.args.self.now { journal = c.append.new.self } in
     elim (cases_lt (left_of c.args.self.now) (need_of c.args.body.now)) [
       | inl less ↦ unmoved g.met.D.Disk.only_now c.args.self.now new c.args.body.now bodies stands (ap journal.disk_of (c.append.ensures.full less).1)
-      | inr enough ↦ adding c.args.self.now new c.args.body.now enough bodies stands c.append.ensures.any_moment_behind
+      | inr enough ↦ adding c.args.self.now new c.args.body.now enough bodies stands c.append.ensures.any_moment
     ]
 
 pub returns-clause-any_moment : goal.returns-clause-any_moment
 returns-clause-any_moment g c bodies stands =
     let new = record c.args.self.now { journal = c.append.new.self; renewal = c.clear.new.self } in
-    adding c.args.self.now new c.args.body.now c.in_ok-append.ensures.ok.fits bodies stands c.append.ensures.any_moment_behind
+    adding c.args.self.now new c.args.body.now c.in_ok-append.ensures.ok.fits bodies stands c.append.ensures.any_moment
 
 pub returns-clause-ok : goal.returns-clause-ok
 returns-clause-ok g c =
