@@ -8,7 +8,7 @@ use Rattle.walter_base.specs.declared.format.Format.TheVariants.{First, Second}
 use Rattle.walter_base.specs.declared.message.Record.{Record}
 use Rattle.walter_base.specs.declared.message.Record.TheVariants.{Boot, Format as FormatRecord}
 use Rattle.walter_base.specs.declared.names.SiteId.{SiteId}
-use Rattle.walter_base.specs.Sizes.{CanBeRecorded, most_in}
+use Rattle.walter_base.specs.Sizes.{most_in}
 use Rattle.walter_engine.specs.Effects.{AreCalls, AreCallsFor}
 use Rattle.walter_checkpoint.proofs.Adding.{stands_more}
 use Rattle.walter_checkpoint.specs.Books.{disk_of, shape_of, left_of, IsLaidBeforeOrBehind, StandsFor, Appends}
@@ -44,6 +44,7 @@ use Rattle.walter_rules.specs.declared.outcome.Outcome.TheVariants.{Refused, Tak
 use Rattle.walter_rules.specs.Allowed.{IsKind, boots, upgrades}
 use Rattle.walter_rules.specs.Calls.{Expected}
 use Rattle.walter_rules.specs.Layouts.{Layout, header_of, in_force, format_at, need_of, need_in, left_behind, FitsIn}
+use Rattle.walter_rules.specs.Records.{IsRecordAmong}
 use Rattle.walter_rules.specs.Rule.{rule, rule_where, upgrade_rule}
 use Rattle.walter_rules.proofs.RulesAllowed.{rule_allowed}
 use Rattle.walter_rules.specs.Standing.{Standing, records_after, flight_after, stands_after, up_after}
@@ -229,7 +230,7 @@ same_calls came old mid new same calls = subst (λ n. AreCalls came n new) same 
 pub sized_as : (sites : ℕ) (came other : Came) → came ≡ other → IsSized sites other → IsSized sites came
 sized_as sites came other is sized = subst (λ (c : Came). IsSized sites c) (sym is) sized
 
-pub sized_flying : (sites : ℕ) (event : Event) (rec : Record) → CanBeRecorded rec
+pub sized_flying : (sites : ℕ) (event : Event) (rec : Record) → IsRecordAmong sites rec
     → IsSized sites (record (only (failure event rec)) { flight = Some rec })
 sized_flying sites event rec can =
     record { outcome = (failure_is event rec).2; kept = tt; wrote = tt; flight = can; sends = none_sent sites }

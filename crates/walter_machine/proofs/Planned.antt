@@ -10,7 +10,6 @@ use Rattle.walter_base.specs.declared.message.Record.TheVariants.{Boot}
 use Rattle.walter_base.specs.declared.message.Request.TheVariants.{Level as LevelAsked}
 use Rattle.walter_base.specs.declared.names.SiteId.{SiteId}
 use Rattle.walter_base.specs.declared.names.Tid.{Tid}
-use Rattle.walter_base.specs.Sizes.{CanBeRecorded}
 use Rattle.walter_machine.specs.declared.ready.Ready.{Ready}
 use Rattle.walter_machine.specs.Steps.{Step, Apply, Rise, came_of, outcome_of, record_of, sends_of, expected_by, IsStep, IsPlanOf, IsRise}
 use Rattle.walter_machine.specs.Comings.{IsSized, is_faulty}
@@ -19,7 +18,6 @@ use Rattle.walter_machine.specs.Readiness.{step_in, IsReadyFor}
 use Rattle.walter_machine.specs.States.{CanBeNext, IsOf, IsUp}
 use Rattle.walter_machine.proofs.Behind.{plan_stays}
 use Rattle.walter_machine.proofs.Calls.{record_takes}
-use Rattle.walter_machine.proofs.Records.{recordable}
 use Rattle.walter_machine.proofs.Sizes.{faultless, none_sent}
 use Rattle.walter_packet.specs.Framed.{frame_of}
 use Rattle.walter_packet.specs.Spelling.{HasPacketSpelling}
@@ -72,10 +70,6 @@ next_here : (catalog : Catalog) (i : SiteId) (S : Standing) (rec : Option Record
 next_here catalog i S None sizes follows = tt
 next_here catalog i S (Some rec) sizes follows = record { sizes = sizes; follows = follows }
 
-recorded_here : (sites : ℕ) (rec : Option Record) → IfSome rec (IsRecordAmong sites) → IfSome rec CanBeRecorded
-recorded_here sites None sizes = tt
-recorded_here sites (Some rec) sizes = recordable sites rec sizes
-
 takes_here : (rec : Option Record) (P : Type 0) → (is_some rec ≡ true → P) → IfSome rec (λ r. P)
 takes_here None P so = tt
 takes_here (Some rec) P so = so refl
@@ -107,7 +101,7 @@ plan_ready header catalog i S old new input owing plan site_is catalog_is same_s
       sized = subst (λ (s : Step). IsSized catalog.sites (came_of s)) (sym is) (record {
         outcome = short;
         kept = tt;
-        wrote = recorded_here catalog.sites plan.planned.rec sizes_here;
+        wrote = sizes_here;
         flight = tt;
         sends = spelled;
       });

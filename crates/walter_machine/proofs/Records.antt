@@ -32,6 +32,10 @@ recordable sites (SlowEnd slow) among = among
 recordable sites (Marks durable visible) among = among
 recordable sites FormatRecord among = among
 
+pub recordable_if : (sites : ℕ) (rec : Option Record) → IfSome rec (IsRecordAmong sites) → IfSome rec CanBeRecorded
+recordable_if sites None among = tt
+recordable_if sites (Some rec) among = recordable sites rec among
+
 -- what is left behind an event goes by its record alone
 pub lost_after : (catalog : Catalog) (i : SiteId) (K : Knowledge) (event : Event) (outcome : Outcome)
     (wrote : Option Record) → lost (after catalog i K event outcome wrote) ≡ recorded catalog i wrote (lost K)

@@ -9,7 +9,6 @@ use Rattle.walter_base.specs.declared.names.SiteId.{SiteId}
 use Rattle.walter_base.specs.declared.names.Tid.{Tid}
 use Rattle.walter_base.specs.declared.message.Record.TheVariants.{Boot}
 use Rattle.walter_base.specs.ByClient.{of_client}
-use Rattle.walter_base.specs.Sizes.{CanBeRecorded}
 use Rattle.walter_machine.specs.declared.machine.Machine.{Machine}
 use Rattle.walter_machine.specs.declared.ready.Ready.{Ready}
 use Rattle.walter_machine.specs.Steps.{Step, Answer, Apply, Fall, Rise, came_of, outcome_of, record_of, sends_of, IsIdle, IsStep, Steps, flight_behind, records_behind}
@@ -21,7 +20,7 @@ use Rattle.walter_machine.specs.States.{AreTold, CanBeNext, IsOf, IsState}
 use Rattle.walter_machine.proofs.Behind.{idle_steps, stays_gone}
 use Rattle.walter_alone.proofs.Followed.{lost_recorded}
 use Rattle.walter_machine.proofs.Owing.{told_so}
-use Rattle.walter_machine.proofs.Records.{told_more, told_same, still_can, recordable}
+use Rattle.walter_machine.proofs.Records.{told_more, told_same, still_can}
 use Rattle.walter_machine.proofs.Standings.{still_told, still_up, want_idle, want_told, none_open, no_up, IsFilled, step_told, step_flight, fault_of, failing_up, failing_told, failing_gone}
 use Rattle.walter_rules.specs.declared.entry.Came.{Came}
 use Rattle.walter_rules.specs.declared.event.Event.{Event}
@@ -43,6 +42,7 @@ use Rattle.walter_rules.specs.Trails.{Comes, IsFound, TakesMemory, IsPutOut, fai
 use Rattle.walter_rules.proofs.Staying.{put_all}
 use Rattle.walter_tables.specs.declared.tables.Tables.{Tables}
 use Rattle.walter_tables.specs.Sites.{site_of, catalog_of}
+use Rattle.walter_rules.specs.Records.{IsRecordAmong}
 
 -- ---- what a machine has room for
 
@@ -400,8 +400,8 @@ pub fault_made : (came : Came) (outcome : Outcome) (flight : Option Record) (eve
 fault_made came outcome flight event rec alone outcome_is flight_is =
     λ j. record (alone j) { outcome = outcome_is j; flight = flight_is j }
 
--- what can be the next can be recorded
+-- what can be the next is of a site among so many
 pub next_recorded : (catalog : Catalog) (i : SiteId) (S : Standing) (o : Option Record) → IfSome o (CanBeNext catalog i S)
-    → IfSome o CanBeRecorded
+    → IfSome o (IsRecordAmong catalog.sites)
 next_recorded catalog i S None next = tt
-next_recorded catalog i S (Some rec) next = recordable catalog.sites rec next.sizes
+next_recorded catalog i S (Some rec) next = next.sizes

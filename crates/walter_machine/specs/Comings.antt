@@ -1,6 +1,5 @@
 -- What an event comes to: the sizes of what is written and put out, and faults.
 use Rattle.std.specs.Prelude.{◌≡◌, ◌<◌, ℕ, Bool, true, false, All, IfSome}
-use Rattle.walter_base.specs.Sizes.{CanBeRecorded}
 use Rattle.walter_base.specs.declared.message.Reply.TheVariants.{Unsure}
 use Rattle.walter_packet.specs.Spelling.{HasPacketSpelling}
 use Rattle.walter_rules.specs.declared.entry.Came.{Came}
@@ -11,14 +10,15 @@ use Rattle.walter_rules.specs.Trails.{only}
 use Rattle.walter_rules.specs.declared.outcome.Outcome.{Outcome}
 use Rattle.walter_rules.specs.declared.outcome.Outcome.TheVariants.{Replied, Taken, Failed, Memory, Refused}
 use Rattle.walter_rules.specs.declared.event.Event.TheVariants.{Stop}
+use Rattle.walter_rules.specs.Records.{IsRecordAmong}
 use Rattle.walter_site.specs.Members.{IsShortOutcome}
 
--- a reply has a frame, and each record and each packet a spelling
+-- a reply has a frame, and each record, of a site among so many, and each packet a spelling
 pub record IsSized (sites : ℕ) (came : Came) : Type 0 where
   pub outcome : IsShortOutcome came.outcome
-  pub kept : IfSome came.kept CanBeRecorded
-  pub wrote : IfSome came.wrote CanBeRecorded
-  pub flight : IfSome came.flight CanBeRecorded
+  pub kept : IfSome came.kept (IsRecordAmong sites)
+  pub wrote : IfSome came.wrote (IsRecordAmong sites)
+  pub flight : IfSome came.flight (IsRecordAmong sites)
   pub sends : All (λ s. HasPacketSpelling sites s.1) came.sends
 
 -- an outcome alone: no record, and nothing put out

@@ -7,6 +7,7 @@ use Rattle.walter_base.specs.declared.message.Record.TheVariants.{Boot, Own, Got
 use Rattle.walter_base.specs.declared.names.ObjId.{ObjId}
 use Rattle.walter_base.specs.Names.{IsBefore}
 use Rattle.walter_base.specs.Sizes.{CanBeRecorded}
+use Rattle.walter_rules.specs.Records.{IsRecordAmong}
 use Rattle.walter_tables.specs.Props.{HasShortValue-prop}
 
 IsBefore-prop : (a b : ObjId) → IsProp (IsBefore a b)
@@ -19,7 +20,7 @@ IsBefore-prop a b (inr p) (inr q) =
     let one : IsProp ((a.container ≡ b.container) × (a.local < b.local)) = hlevel usual in
     ap inr (one p q)
 
-pub CanBeRecorded-prop : (rec : Record) → IsProp (CanBeRecorded rec)
+CanBeRecorded-prop : (rec : Record) → IsProp (CanBeRecorded rec)
 CanBeRecorded-prop (Boot epoch) = hlevel usual
 CanBeRecorded-prop (Own seq tx) = hlevel (usual, HasShortValue-prop)
 CanBeRecorded-prop (Got from seq tx) = hlevel (usual, HasShortValue-prop)
@@ -31,4 +32,10 @@ CanBeRecorded-prop (SlowEnd slow) = hlevel usual
 CanBeRecorded-prop (Marks durable visible) = hlevel usual
 CanBeRecorded-prop FormatRecord = hlevel usual
 
-pub ruleset props = (usual, codes, CanBeRecorded-prop)
+pub IsRecordAmong-prop : (sites : ℕ) (rec : Record) → IsProp (IsRecordAmong sites rec)
+IsRecordAmong-prop sites (Own seq tx) = hlevel (usual, HasShortValue-prop)
+IsRecordAmong-prop sites (Got from seq tx) = hlevel (usual, HasShortValue-prop)
+IsRecordAmong-prop sites (SlowBegin slow tx) = hlevel (usual, HasShortValue-prop)
+IsRecordAmong-prop sites rec = CanBeRecorded-prop rec
+
+pub ruleset props = (usual, codes, IsRecordAmong-prop)

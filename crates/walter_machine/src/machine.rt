@@ -2,7 +2,7 @@
 ghost use Rattle.std.specs.Prelude.{◌≡◌, ◌≢◌, ◌≤◌, ◌<◌, ◌+◌, ◌^◌, ℕ, None, Some, false, true, is_some, vec_len, IfSome, IfNone, IsSome, IfOk, OnErr, OnOk};
 ghost use Rattle.walter_base.specs.contracts.catalog.Catalog as coded_catalog;
 ghost use Rattle.walter_base.specs.declared.format.Format.{Format as Header};
-ghost use Rattle.walter_base.specs.Sizes.{CanBeRecorded};
+ghost use Rattle.walter_rules.specs.Records.{IsRecordAmong};
 ghost use Rattle.walter_base.specs.Vectors.{most_sites};
 ghost use Rattle.walter_machine.specs.Props.{props};
 ghost use Rattle.walter_machine.specs.States.{IsOf, IsRoom};
@@ -44,7 +44,7 @@ pub struct Machine {
     ghost most: { catalog.sites ≤ most_sites },
     ghost fewer: { catalog.tolerated < catalog.sites },
     ghost of: { IfSome site (IsOf catalog id) } by { Prim.hlevel (props, coded_catalog.the_row.coded) },
-    ghost sized: { IfSome flight CanBeRecorded } by { Prim.hlevel props },
+    ghost sized: { IfSome flight (IsRecordAmong catalog.sites) } by { Prim.hlevel props },
     // A site that is up has what its fall takes.
     ghost roomy: { is_some site ≡ true → IsRoom (is_some lost) (vec_len places) } by { Prim.hlevel props },
 }
@@ -221,7 +221,7 @@ impl Machine {
         requires down { is_up self.old ≡ false }
         requires count { found + 1 < 2 ^ 64 }
         ensures settles { (S : Standing) → HasStanding self.old S → AreFound S found → Settles S found result self.new }
-        ensures sized { IfSome result CanBeRecorded }
+        ensures sized { IfSome result (IsRecordAmong (catalog_in self.old).sites) }
         ensures records { records_in self.new ≡ found }
         ensures room { HasRoom self.old → HasRoom self.new }
         ensures down { tables_in self.new ≡ None }

@@ -26,6 +26,7 @@ use Rattle.walter_engine.specs.Replays.{IsReadyOver}
 use Rattle.walter_engine.specs.Restarts.{ComesOf, left_over}
 use Rattle.walter_engine.specs.Stores.{IsLeft, layout_of}
 use Rattle.walter_engine.specs.Writings.{IsOutcomeOf}
+use Rattle.walter_machine.proofs.Records.{recordable_if}
 use Rattle.walter_machine.proofs.Sizes.{sized_only}
 use Rattle.walter_machine.specs.Comings.{is_faulty, IsSized}
 use Rattle.walter_machine.specs.Machines.{catalog_in, site_in, tables_in, records_in, HasStanding, IsCounted}
@@ -84,7 +85,8 @@ returns-in_default g c =
     }
 
 pub spell_any-requires-clause-sized : goal.spell_any-requires-clause-sized
-spell_any-requires-clause-sized g c = c.in-Ok.ensures.ready.anyway.ready_for.sized.wrote
+spell_any-requires-clause-sized g c =
+    recordable_if c.catalog.result.now.sites (rec_in c.in-Ok.ready.0) c.in-Ok.ensures.ready.anyway.ready_for.sized.wrote
 
 pub spell_any-requires-clause-fits : goal.spell_any-requires-clause-fits
 spell_any-requires-clause-fits g c =

@@ -1,7 +1,8 @@
 use Rattle.std.proofs.Common.{◌≡◌, [], rules, ◌≤◌, ℕ, List, length, map, true, false, Option, Some, None, sym, ◌∙◌, subst, ap, inl, inr, refl, arith}
 use Rattle.std.specs.Prelude.{IfSome, IsSome, is_some}
 use Rattle.walter_base.specs.declared.format.Format.{Format}
-use Rattle.walter_base.specs.Sizes.{CanBeRecorded}
+use Rattle.walter_machine.proofs.Records.{recordable}
+use Rattle.walter_rules.specs.Records.{IsRecordAmong}
 use Rattle.walter_checkpoint.specs.Books.{disk_of, left_of, HasRoom}
 use Rattle.walter_checkpoint.specs.declared.book.Book.{Book}
 use Rattle.walter_engine.proofs.Bodies.{some_is}
@@ -66,9 +67,9 @@ returns-in_default g c =
 pub append-requires-clause-short : goal.append-requires-clause-short
 append-requires-clause-short g c =
     let s = spelling_some {g = g.D.Disk} c.args.format c.args.book.now (rec_in c.args.ready.now) c.args.body c.in-Some.body c.requires.spelled c.in-Some.is in
-    let can = some_is CanBeRecorded (rec_in c.args.ready.now) s.0 s.1 c.requires.anyway.ready_for.sized.wrote in
+    let can = some_is (IsRecordAmong (catalog_in c.args.machine.now).sites) (rec_in c.args.ready.now) s.0 s.1 c.requires.anyway.ready_for.sized.wrote in
     let is = c.as_slice.ensures ∙ s.2.is in
-    subst (λ (b : List ℕ). length b ≤ 65536) (sym is) (short_enough c.args.format s.0 can
+    subst (λ (b : List ℕ). length b ≤ 65536) (sym is) (short_enough c.args.format s.0 (recordable (catalog_in c.args.machine.now).sites s.0 can)
     (some_is (FitsFormat c.args.format) (rec_in c.args.ready.now) s.0 s.1
     (fits_next c.args.format (catalog_in c.args.machine.now) (site_in c.args.machine.now) c.requires.anyway.S
     (rec_in c.args.ready.now) c.requires.sites c.requires.anyway.ready_for.next)))
@@ -81,7 +82,7 @@ append-requires-clause-room g c =
 pub returns-in-Ok : goal.returns-in-Ok
 returns-in-Ok g c =
     let s = spelling_some {g = g.D.Disk} c.args.format c.args.book.now (rec_in c.args.ready.now) c.args.body c.in-Some.body c.requires.spelled c.in-Some.is in
-    let can = some_is CanBeRecorded (rec_in c.args.ready.now) s.0 s.1 c.requires.anyway.ready_for.sized.wrote in
+    let can = some_is (IsRecordAmong (catalog_in c.args.machine.now).sites) (rec_in c.args.ready.now) s.0 s.1 c.requires.anyway.ready_for.sized.wrote in
     let is = c.as_slice.ensures ∙ s.2.is in
     let came = c.keep-in-Ok.ensures.came in
     record {
@@ -128,7 +129,7 @@ fail-requires-clause-flies g c =
 pub returns-in-Err-Failed : goal.returns-in-Err-Failed
 returns-in-Err-Failed g c =
     let s = spelling_some {g = g.D.Disk} c.args.format c.args.book.now (rec_in c.args.ready.now) c.args.body c.in-Some.body c.requires.spelled c.in-Some.is in
-    let can = some_is CanBeRecorded (rec_in c.args.ready.now) s.0 s.1 c.requires.anyway.ready_for.sized.wrote in
+    let can = some_is (IsRecordAmong (catalog_in c.args.machine.now).sites) (rec_in c.args.ready.now) s.0 s.1 c.requires.anyway.ready_for.sized.wrote in
     let is = c.as_slice.ensures ∙ s.2.is in
     let came = some_is (λ rec. c.fail.new.came ≡ record (only (failure c.args.event.now rec)) { flight = Some rec }) (rec_in c.args.ready.now) s.0 s.1 c.fail.ensures.came in
     let failed = failed_is c.append.result (need_of c.as_slice.result.now) (left_of c.args.book.now) _ _ c.append.ensures.full c.append.ensures.failed c.in-Err-Failed.field-0 c.in-Err-Failed.is c.in-Err-Failed.field-0-is in
@@ -178,7 +179,7 @@ overflow-requires g c =
 pub returns : goal.returns
 returns g c =
     let s = spelling_some {g = g.D.Disk} c.args.format c.args.book.now (rec_in c.args.ready.now) c.args.body c.in-Some.body c.requires.spelled c.in-Some.is in
-    let can = some_is CanBeRecorded (rec_in c.args.ready.now) s.0 s.1 c.requires.anyway.ready_for.sized.wrote in
+    let can = some_is (IsRecordAmong (catalog_in c.args.machine.now).sites) (rec_in c.args.ready.now) s.0 s.1 c.requires.anyway.ready_for.sized.wrote in
     let is = c.as_slice.ensures ∙ s.2.is in
     let full = full_is c.append.result (need_of c.as_slice.result.now) (left_of c.args.book.now) _ _ c.append.ensures.full c.append.ensures.failed c.in-Err-Full.field-0 c.in-Err-Full.need c.in-Err-Full.left c.in-Err-Full.is c.in-Err-Full.field-0-is in
     let came = c.overflow.ensures.came in

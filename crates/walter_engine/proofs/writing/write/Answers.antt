@@ -8,6 +8,7 @@ use Rattle.walter_engine.proofs.Written.{fits_next, is_taken, want_is, takes_mem
 use Rattle.walter_engine.proofs.writing.write.Goals as goal
 use Rattle.walter_engine.specs.Contents.{MayHaveNext}
 use Rattle.walter_engine.specs.Writings.{IsOutcomeOf}
+use Rattle.walter_machine.proofs.Records.{recordable_if}
 use Rattle.walter_machine.proofs.Sizes.{sized_only}
 use Rattle.walter_machine.specs.Comings.{is_faulty}
 use Rattle.walter_machine.specs.Machines.{catalog_in, site_in, is_up}
@@ -19,7 +20,8 @@ use Rattle.walter_rules.specs.Standing.{up_after}
 use Rattle.walter_rules.specs.declared.entry.Came.{Came}
 
 pub spell_any-requires-clause-sized : goal.spell_any-requires-clause-sized
-spell_any-requires-clause-sized g c = c.requires.anyway.ready_for.sized.wrote
+spell_any-requires-clause-sized g c =
+    recordable_if (catalog_in c.args.machine.now).sites (rec_in c.args.ready.now) c.requires.anyway.ready_for.sized.wrote
 
 pub spell_any-requires-clause-fits : goal.spell_any-requires-clause-fits
 spell_any-requires-clause-fits g c =

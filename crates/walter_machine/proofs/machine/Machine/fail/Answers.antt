@@ -1,7 +1,6 @@
 use Rattle.std.proofs.Common.{◌≡◌, ◌∙◌, Option, ap, sym, subst, refl}
 use Rattle.std.specs.Prelude.{IfSome, is_some}
 use Rattle.walter_base.specs.declared.message.Record.{Record}
-use Rattle.walter_base.specs.Sizes.{CanBeRecorded}
 use Rattle.walter_machine.specs.States.{IsOf}
 use Rattle.walter_machine.specs.declared.ready.Kind.{Kind}
 use Rattle.walter_machine.specs.Readiness.{step_in}
@@ -12,6 +11,7 @@ use Rattle.walter_machine.proofs.Standing.{fail_comes, failed_standing_by, fault
 use Rattle.walter_machine.proofs.Standings.{failure_falls, fault_of}
 use Rattle.walter_rules.specs.declared.outcome.Outcome.{Outcome}
 use Rattle.walter_machine.proofs.machine.Machine.fail.Goals as goal
+use Rattle.walter_rules.specs.Records.{IsRecordAmong}
 
 pub lose-requires-clause-falls : goal.lose-requires-clause-falls
 lose-requires-clause-falls c =
@@ -34,7 +34,7 @@ invariant_of-self-clause-of c =
 pub invariant_of-self-clause-sized : goal.invariant_of-self-clause-sized
 invariant_of-self-clause-sized c =
     let m = c.args.self.now in
-    subst (λ (f : Option Record). IfSome f CanBeRecorded) (sym (c.place.ensures.rec ∙ sym c.rec_of.ensures
+    subst (λ (f : Option Record). IfSome f (IsRecordAmong m.catalog.sites)) (sym (c.place.ensures.rec ∙ sym c.rec_of.ensures
     ∙ ap (λ (k : Kind). record_of (step_by k c.args.ready.now.plan)) c.replace-kind.ensures.value))
     (next_recorded m.catalog m.id c.requires.anyway.S (record_of (step_in c.args.ready.now)) c.requires.anyway.ready_for.next)
 

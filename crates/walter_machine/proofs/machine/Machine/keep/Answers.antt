@@ -1,12 +1,12 @@
 use Rattle.std.proofs.Common.{◌∙◌, ap, sym, subst, refl}
 use Rattle.std.specs.Prelude.{IfSome, is_some}
-use Rattle.walter_base.specs.Sizes.{CanBeRecorded}
 use Rattle.walter_machine.specs.declared.ready.Kind.{Kind}
 use Rattle.walter_machine.specs.Steps.{IsStep, Steps, came_of, flight_behind, outcome_of, records_behind, sends_of, step_by}
 use Rattle.walter_machine.proofs.Standing.{came_made, flight_sized, keep_comes, kept_standing, lost_none, room_of}
 use Rattle.walter_rules.specs.declared.entry.Came.{Came}
 use Rattle.walter_rules.specs.Trails.{Comes}
 use Rattle.walter_machine.proofs.machine.Machine.keep.Goals as goal
+use Rattle.walter_rules.specs.Records.{IsRecordAmong}
 
 pub follow-requires-clause-can : goal.follow-requires-clause-can
 follow-requires-clause-can c =
@@ -34,8 +34,10 @@ invariant_of-self-clause-of c =
 
 pub invariant_of-self-clause-sized : goal.invariant_of-self-clause-sized
 invariant_of-self-clause-sized c =
-    subst (λ f. IfSome f CanBeRecorded) (sym c.count_in-records.ensures.flight)
-    (flight_sized CanBeRecorded _ _ (subst (λ f. IfSome f CanBeRecorded) (sym c.replace-flight.ensures.value) c.args.self.now.sized))
+    let m = c.args.self.now in
+    subst (λ f. IfSome f (IsRecordAmong m.catalog.sites)) (sym c.count_in-records.ensures.flight)
+    (flight_sized (IsRecordAmong m.catalog.sites) _ _
+    (subst (λ f. IfSome f (IsRecordAmong m.catalog.sites)) (sym c.replace-flight.ensures.value) m.sized))
 
 pub invariant_of-self-clause-roomy : goal.invariant_of-self-clause-roomy
 invariant_of-self-clause-roomy c = λ up. record {
