@@ -2,8 +2,9 @@
 use Rattle.std.proofs.Common.{◌≡◌, ℕ, ◌<◌, ◌≤◌, List, [], ◌++◌, length, map, slice_get, reverse, Option, Some, None, option_map, refl, ap, sym, ◌∙◌, subst, arith, inl, inr}
 use Rattle.std.specs.Prelude.{IfSome, count_by}
 use Rattle.std.proofs.lemmas.List.{length-map}
-use Rattle.std.proofs.lemmas.Option.{slice_get-map, slice_get_within}
+use Rattle.std.proofs.lemmas.Option.{IfSome_then, slice_get-map, slice_get_within}
 use Rattle.walter_base.specs.declared.catalog.Catalog.{Catalog}
+use Rattle.walter_base.specs.declared.format.Format.{Format}
 use Rattle.walter_base.specs.declared.names.SiteId.{SiteId}
 use Rattle.walter_cell.specs.Cells.{CellValue, IsCell}
 use Rattle.walter_cell.specs.Entries.{HaveRisingStamps}
@@ -21,7 +22,7 @@ use Rattle.walter_play.specs.Scripts.{ArmsMore, AreArmed, arms_for, arms_of, all
 use Rattle.walter_play.proofs.Arming.{for_more}
 use Rattle.walter_rules.specs.declared.entry.Entry.{Entry}
 use Rattle.walter_rules.specs.Knowledge.{site_at}
-use Rattle.walter_rules.specs.Layouts.{Layout}
+use Rattle.walter_rules.specs.Layouts.{Layout, header_of}
 use Rattle.walter_rules.specs.Merges.{AreLinked}
 use Rattle.walter_scenario.specs.declared.scenario.Arm.{Arm}
 use Rattle.walter_scenario.specs.declared.scenario.Scenario.{Scenario}
@@ -29,7 +30,7 @@ use Rattle.walter_cli.specs.declared.ended.Fault.{Fault}
 use Rattle.walter_cli.specs.declared.ended.Fault.TheVariants.{Usage, Scenario as ScenarioFault, Read, Write, Memory, Rack, Journal}
 use Rattle.walter_cli.specs.Disks.{AreGiven}
 use Rattle.walter_cli.specs.Ending.{Drives, IsBuilt, IsWholeBack, IsWriteFault, EndsRun}
-use Rattle.walter_cli.specs.Headline.{AreCallsOf, AreTold, LeavesRecords, IsDiskOfRun, IsDiskOfWhole, IsRun, IsWholeRun, trail_at}
+use Rattle.walter_cli.specs.Headline.{AreCallsOf, AreTold, HaveHeaders, LeavesRecords, IsDiskOfRun, IsDiskOfWhole, IsRun, IsWholeRun, trail_at}
 use Rattle.walter_cli.specs.Racks.{RackAt, Racked, Holds, IsTold, racked}
 use Rattle.walter_cli.specs.Words.{written_by}
 use Rattle.walter_words.specs.declared.asked.Command.{Command}
@@ -203,6 +204,17 @@ module _ {D : Type 0} (g : Ghosts D) (t : Scenario) (before mid after : RackAt D
     arms_are = arms_are i disk at;
   }
 
+  -- the formats that the headers of the cells' journals name
+  pub headers_are : (headers : List Format) → headers ≡ map (λ (c : CellValue D). header_of c.node.layout) bench.cells
+      → HaveHeaders rack t headers
+  headers_are headers are = record {
+    one_each = ap length are ∙ length-map bench.cells (λ (c : CellValue D). header_of c.node.layout) ∙ of.sites;
+    each = λ i header at.
+        let there = field_of (λ (c : CellValue D). header_of c.node.layout) bench.cells i header
+        (ap (λ hs. slice_get hs i) (sym are) ∙ at) in
+        IfSome_then (rack.bytes i) (laid_at i there.0 there.1) (λ bytes laid. (there.0.node.layout, laid, there.2));
+  }
+
   pub run_is : IsWhole t.catalog → IsRun rack t trails
   run_is whole = record {
     one_each = ap length trails_are ∙ one_each g t bench of is sound;
@@ -272,12 +284,13 @@ ends_with r command s holds holds' faults faults' trails told fault named ends s
 -- the end of a whole run whose report was not written whole
 pub ends_cut : (r : Racked) (command : Command) (s : Scenario) (holds holds' : Option (List ℕ)) (faults faults' : ℕ)
     (trails : List (List Entry)) (fault : Fault)
-    → IsWholeBack r command s trails → IsWriteFault (written_by command s trails) holds holds' faults faults' fault
+    → IsWholeBack r command s trails → (headers : List Format) → HaveHeaders r s headers
+    → IsWriteFault (written_by command s headers trails) holds holds' faults faults' fault
     → EndsRun r command s holds holds' faults faults' trails (Some fault)
-ends_cut r command s holds holds' faults faults' trails Write run why = (run, why.0, why.1)
-ends_cut r command s holds holds' faults faults' trails Memory run why = (inr run.1.run, why)
-ends_cut r command s holds holds' faults faults' trails (Usage text) run why = absurd why
-ends_cut r command s holds holds' faults faults' trails (ScenarioFault place detail) run why = absurd why
-ends_cut r command s holds holds' faults faults' trails Read run why = absurd why
-ends_cut r command s holds holds' faults faults' trails (Rack site) run why = absurd why
-ends_cut r command s holds holds' faults faults' trails (Journal site cause place) run why = absurd why
+ends_cut r command s holds holds' faults faults' trails Write run headers have why = (run, (headers, have, why.0), why.1)
+ends_cut r command s holds holds' faults faults' trails Memory run headers have why = (inr run.1.run, why)
+ends_cut r command s holds holds' faults faults' trails (Usage text) run headers have why = absurd why
+ends_cut r command s holds holds' faults faults' trails (ScenarioFault place detail) run headers have why = absurd why
+ends_cut r command s holds holds' faults faults' trails Read run headers have why = absurd why
+ends_cut r command s holds holds' faults faults' trails (Rack site) run headers have why = absurd why
+ends_cut r command s holds holds' faults faults' trails (Journal site cause place) run headers have why = absurd why

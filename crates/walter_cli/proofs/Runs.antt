@@ -20,10 +20,10 @@ use Rattle.walter_cli.specs.declared.ended.Fault.TheVariants.{Usage, Scenario as
 use Rattle.walter_cli.specs.declared.ended.JournalCause.{JournalCause}
 use Rattle.walter_cli.specs.Ending.{IsTakeFault, IsPoseFault, IsWholeBack, MayHaveRun, EndsRun, EndsText}
 use Rattle.walter_cli.specs.Sources.{HasNoReading, IsTaken}
-use Rattle.walter_cli.specs.Headline.{Outside, HasNotBegun, IsRun, Runs, RunsWhole, Says, OfScenario, IsRackFault, IsFirstUnfit, FailsEarly, Promise}
+use Rattle.walter_cli.specs.Headline.{Outside, HasNotBegun, IsRun, OfText, Runs, RunsWhole, Says, OfScenario, IsRackFault, IsFirstUnfit, FailsEarly, Promise}
 use Rattle.walter_cli.specs.Racks.{Racked, AreAllTold, Holds, IsUntaken, IsUntouched, IsFaultlessBefore, HasCause}
 use Rattle.walter_cli.specs.Statuses.{status_of}
-use Rattle.walter_cli.specs.Words.{Asks, AskForNone, IsForText, IsPosed, IsRead, IsWrong, Poses, but_for_steps, written_by}
+use Rattle.walter_cli.specs.Words.{Asks, AskForNone, IsForText, IsPosed, IsRead, IsWrong, Poses, but_for_steps}
 use Rattle.walter_words.specs.Words.{AsksForText}
 use Rattle.walter_words.specs.declared.asked.Command.{Command}
 use Rattle.walter_words.specs.declared.asked.Command.TheVariants.{Play, Run, Load, Say}
@@ -141,7 +141,7 @@ module _ (words : List (String Global)) (rack : Racked) (before after : Outside)
   module _ (command : Command) (line : Asks command words) (only : (other : Command) → Asks other words → other ≡ command) where
     -- what a run promises whatever came of what is written
     whole : (s : Scenario) (Written : List ℕ → Type 0) → IsPosed command before.left after.left s
-        → IsWholeBack rack command s ended.trails.items → Written (written_by command s ended.trails.items)
+        → IsWholeBack rack command s ended.trails.items → OfText rack command s ended.trails.items Written
         → RunsWhole words rack before after ended.trails.items Written
     whole s Written posed run written = record {
       command = command;

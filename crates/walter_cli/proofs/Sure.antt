@@ -1,15 +1,19 @@
 -- What a call promises over a rack that tells its disks, whose disks have no bytes and never failed where they have no
 -- arm, and of which two calls for each site don't fail.
-use Rattle.std.proofs.Common.{◌≡◌, ℕ, ◌≤◌, List, [], ◌∷◌, ◌++◌, ◌⊎◌, length, Option, Some, None, ap, sym, ◌∙◌, refl, subst, arith, inl, inr}
-use Rattle.std.specs.Prelude.{All, Contains, IfSome, String}
+use Rattle.std.proofs.Common.{◌≡◌, ℕ, ◌≤◌, List, [], ◌∷◌, ◌++◌, ◌⊎◌, ⊎_elim, suc, length, replicate, Option, Some, None, ap, sym, ◌∙◌, refl, subst, arith, inl, inr}
+use Rattle.std.specs.Prelude.{All, Contains, IfSome, String, slice_get}
 use Rattle.std.specs.Global.{Global}
 use Rattle.std.proofs.lemmas.List.Elements.{All-contains, All-weaker}
+use Rattle.walter_base.specs.declared.format.Format.{Format}
 use Rattle.walter_disk.specs.Disks.{DiskState}
 use Rattle.walter_disk.specs.declared.disk.Disk.{Ghosts}
+use Rattle.walter_engine.proofs.Laid.{for_header}
 use Rattle.walter_engine.specs.Begins.{HasNoRecord}
-use Rattle.walter_cluster.specs.Benches.{shape_of}
+use Rattle.walter_engine.specs.Contents.{HasBodies}
+use Rattle.walter_cluster.specs.Benches.{IsLaidFor, layout_of, shape_of}
 use Rattle.walter_cluster.proofs.Changes.{there_is}
 use Rattle.walter_play.specs.Scripts.{all_arms}
+use Rattle.walter_rules.specs.Layouts.{Layout, one_area, two_areas, header_of}
 use Rattle.walter_scenario.specs.declared.scenario.Scenario.{Scenario}
 use Rattle.walter_stream.specs.Streams.{Appends, AppendsFront}
 use Rattle.walter_cli.specs.declared.ended.Ended.{Ended}
@@ -17,9 +21,10 @@ use Rattle.walter_cli.specs.declared.ended.Fault.{Fault}
 use Rattle.walter_cli.specs.declared.ended.Fault.TheVariants.{Memory, Rack, Journal}
 use Rattle.walter_cli.specs.declared.ended.JournalCause.{JournalCause}
 use Rattle.walter_cli.specs.Assurance.{Assures, IsSureRun, IsSureReport}
-use Rattle.walter_cli.specs.Headline.{Outside, HasNotBegun, Says, IsDiskOfRun, Runs, RunsWhole, IsRackFault, FailsEarly, Promise}
+use Rattle.walter_cli.specs.Headline.{Outside, HasNotBegun, HaveHeaders, Says, IsDiskOfRun, Runs, RunsWhole, IsRackFault, FailsEarly, Promise}
 use Rattle.walter_cli.specs.Racks.{RackAt, Racked, OfADisk, IsTold, Holds, AreSo, AreFirst, IsHanded, IsMore, IsUntaken, IsUnarmed, HasFailed, HasCause, racked}
 use Rattle.walter_cli.specs.Statuses.{status_of}
+use Rattle.walter_cli.specs.Words.{written_by}
 use Rattle.walter_words.specs.declared.asked.Command.{Command}
 use Rattle.walter_cli.proofs.Wholes.{posed_some}
 use Rattle.walter_cli.proofs.Causes.{none_has_cause}
@@ -39,6 +44,25 @@ none_of_none {X = X} (Some told) all none is = by told (sym is.1 ∙ none)
 if_some : {X : Type 0} (P Q : X → Type 0) → ((x : X) → P x → Q x) → (o : Option X) → IfSome o P → IfSome o Q
 if_some P Q by None is = tt
 if_some P Q by (Some x) is = by x is
+
+-- a list of one thing alone
+all_equal : {X : Type 0} (x : X) (xs : List X) → ((i : ℕ) (y : X) → slice_get xs i ≡ Some y → y ≡ x)
+    → xs ≡ replicate (length xs) x
+all_equal x [] same = refl
+all_equal x (y ∷ ys) same = λ j. same 0 y refl j ∷ all_equal x ys (λ i z at. same (suc i) z at) j
+
+-- no book lies in no bytes
+no_bodies : (layout : Layout) → HasBodies layout [] [] → ⊥
+no_bodies (one_area capacity header) has = omega (arith, ap length has.is)
+no_bodies (two_areas capacity sites header) has = omega (arith, ap length has.is)
+
+-- so a journal over none has the header that the scenario asks for
+new_header : (s : Scenario) (bytes : List ℕ) (header : Format) → bytes ≡ []
+    → (layout : Layout) × IsLaidFor s bytes layout × (header_of layout ≡ header) → header ≡ s.format
+new_header s bytes header none (layout, laid, named) =
+    let asked : layout ≡ layout_of s =
+    ⊎_elim (λ new. new.1) (λ has. absurd (no_bodies layout (subst (λ b. HasBodies layout b []) none has))) laid.laid in
+    sym named ∙ ap header_of asked ∙ for_header s.areas s.capacity s.catalog.sites s.format
 
 -- what is so of each disk that was handed back
 each_weaker : {D : Type 0} (g : Ghosts D) (old new : Option (List (ℕ × D))) (P Q : ℕ → OfADisk)
@@ -147,6 +171,16 @@ module _ (words : List (String Global)) {D : Type 0} (g : Ghosts D) (first last 
     disks = elim runs.run.given_back [ inl failed ↦ absurd (ok failed) | inr all ↦ all ];
   }
 
+  -- the journals were new
+  headers_new : (s : Scenario) (headers : List Format) → HaveHeaders rack s headers
+      → headers ≡ replicate s.catalog.sites s.format
+  headers_new s headers have =
+      all_equal s.format headers (λ i header at.
+      of_both (rack.bytes i) (λ bytes. (layout : Layout) × IsLaidFor s bytes layout × (header_of layout ≡ header))
+      (λ bytes. bytes ≡ []) (header ≡ s.format) (λ bytes laid none. new_header s bytes header none laid) (told i)
+      (have.each i header at) (empty i))
+      ∙ ap (λ n. replicate n s.format) have.one_each
+
   report : (Written : List ℕ → Type 0) → RunsWhole words rack before after ended.trails.items Written
       → IsSureReport words rack before after ended.trails.items Written
   unfolding sure
@@ -162,7 +196,10 @@ module _ (words : List (String Global)) {D : Type 0} (g : Ghosts D) (first last 
     disks = is.disks_given_back;
     how_driven = driven_by_fewer is.command (λ i. IsTold rack i) (λ i. Unit {0}) is.scenario ended.trails.items is.arms (λ i all. told i)
         is.run.how_driven;
-    bytes_written = is.bytes_written;
+    bytes_written =
+        let text = is.bytes_written in
+        subst (λ (hs : List Format). Written (written_by is.command is.scenario hs ended.trails.items))
+        (headers_new is.scenario text.0 text.1) text.2;
   }
 
   -- a disk of no bytes has no record

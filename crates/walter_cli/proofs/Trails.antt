@@ -227,10 +227,13 @@ module _ {D : Type 0} (g : Ghosts D) (t : Scenario) (bench : BenchValue D) (of :
       (All-weaker (λ (e : Entry). IsSized there.0.node.catalog.sites e.came) (λ (e : Entry). All FitsFrame (reply_in e.came.outcome))
       (λ e sized. outcome_frames e.came.outcome sized.outcome) there.0.node.trail (sound i there.0 there.1).0.sized))
 
-  pub spellings : HaveSpellings trails
-  spellings = all_there trails (λ trail. All HasSpellings trail) (λ i trail at.
+  pub spellings : HaveSpellings (length trails) trails
+  spellings = all_there trails (λ trail. All (HasSpellings (length trails)) trail) (λ i trail at.
       let there = field_of (λ (c : CellValue D). c.node.trail) bench.cells i trail at in
-      subst (λ (es : List Entry). All HasSpellings es) there.2
-      (All-weaker (λ (e : Entry). IsSized there.0.node.catalog.sites e.came) HasSpellings
-      (λ e sized. record { kept = sized.kept; wrote = sized.wrote; flight = sized.flight }) there.0.node.trail
+      let many : there.0.node.catalog.sites ≡ length trails =
+      (is.cells i there.0 there.1).sites_are ∙ sym (length-map bench.cells (λ (c : CellValue D). c.node.trail)) in
+      subst (λ (es : List Entry). All (HasSpellings (length trails)) es) there.2
+      (All-weaker (λ (e : Entry). IsSized there.0.node.catalog.sites e.came) (HasSpellings (length trails))
+      (λ e sized. subst (λ n. HasSpellings n e) many
+      (record { kept = sized.kept; wrote = sized.wrote; flight = sized.flight })) there.0.node.trail
       (sound i there.0 there.1).0.sized))

@@ -1,6 +1,6 @@
 -- What a user of the program may rest on: a call over disks in memory, which tell what they hold and fail only
 -- where the scenario arms them. Nothing here has a premise on disks.
-use Rattle.std.specs.Prelude.{◌≡◌, ◌≢◌, ◌<◌, ◌⊎◌, ℕ, List, [], count_by, map, Some, String, string_bytes}
+use Rattle.std.specs.Prelude.{◌≡◌, ◌≢◌, ◌<◌, ◌⊎◌, ℕ, List, [], count_by, map, replicate, Some, String, string_bytes}
 use Rattle.std.specs.Global.{Global}
 use Rattle.walter_disk_memory.specs.MemoryRacks.{RackState, rack_of}
 use Rattle.walter_disk_memory.specs.contracts.memory_disk.MemoryDiskDisk.TheImpl.{ghosts as disk_ghosts}
@@ -42,14 +42,16 @@ pub record IsSureRun (words : List (String Global)) (rack : Racked) (before afte
       → count_by (λ e. is_faulty e.came.outcome) (trail_at trails i) ≡ 0
   pub disks : rack.all scenario.catalog.sites (λ i. IsDiskOfRun rack scenario trails i)
 
--- it was driven to its end, which armed the disks so, each disk has all its arms, and what was written of it is so
+-- it was driven to its end, which armed the disks so, each disk has all its arms, and what was written of it is so: all
+-- journals are new, so their headers name the scenario's format
 pub record IsSureReport (words : List (String Global)) (rack : Racked) (before after : Outside)
     (trails : List (List Entry)) (Written : List ℕ → Type 0) : Type 0 where
   pub run : IsSureRun words rack before after trails
   pub arms : ArmsOfSites
   pub how_driven : IsDrivenBy run.command (λ i. Unit {0}) run.scenario trails arms
   pub disks : rack.all run.scenario.catalog.sites (λ i. IsDiskOfWhole rack run.scenario trails arms i)
-  pub bytes_written : Written (written_by run.command run.scenario trails)
+  pub bytes_written : Written (written_by run.command run.scenario
+      (replicate run.scenario.catalog.sites run.scenario.format) trails)
 
 pub record Assures (words : List (String Global)) (rack : Racked) (before after : Outside) (ended : Ended)
     : Type 0 where

@@ -20,10 +20,9 @@ use Rattle.walter_cli.specs.declared.ended.Fault.{Fault}
 use Rattle.walter_cli.specs.declared.ended.Fault.TheVariants.{Usage, Scenario as ScenarioFault, Read, Write, Memory, Rack, Journal}
 use Rattle.walter_cli.specs.declared.ended.JournalCause.TheVariants.{Foreign, Damaged, Used}
 use Rattle.walter_cli.specs.Disks.{AreTaken}
-use Rattle.walter_cli.specs.Headline.{IsRun, ArmsOfSites, IsWholeRun, IsDiskOfWhole, IsRackFault, IsFirstUnfit}
+use Rattle.walter_cli.specs.Headline.{IsRun, ArmsOfSites, IsWholeRun, OfText, IsDiskOfWhole, IsRackFault, IsFirstUnfit}
 use Rattle.walter_cli.specs.Racks.{RackAt, Racked, IsUntouched, IsFaultlessBefore, FailsToTake, FailsToLoad}
 use Rattle.walter_cli.specs.Sources.{HasNoReading}
-use Rattle.walter_cli.specs.Words.{written_by}
 use Rattle.walter_words.specs.declared.asked.Command.{Command}
 use Rattle.walter_words.specs.declared.asked.Command.TheVariants.{Play, Run, Load, Say}
 
@@ -131,9 +130,9 @@ IsWholeBack rack command s trails = (arms : ArmsOfSites) × IsWholeRun rack comm
 abbrev pub EndsRun : Racked → Command → Scenario → (holds holds' : Option (List ℕ)) → (faults faults' : ℕ)
     → List (List Entry) → Option Fault → Type 0
 EndsRun rack command s holds holds' faults faults' trails None =
-    IsWholeBack rack command s trails × Appends holds holds' (written_by command s trails)
+    IsWholeBack rack command s trails × OfText rack command s trails (Appends holds holds')
 EndsRun rack command s holds holds' faults faults' trails (Some Write) =
-    IsWholeBack rack command s trails × AppendsFront holds holds' (written_by command s trails) × (faults < faults')
+    IsWholeBack rack command s trails × OfText rack command s trails (AppendsFront holds holds') × (faults < faults')
 EndsRun rack command s holds holds' faults faults' trails (Some Memory) =
     MayHaveRun rack s trails × (holds' ≡ holds)
 EndsRun rack command s holds holds' faults faults' trails (Some (Rack site)) =

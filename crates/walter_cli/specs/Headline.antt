@@ -1,6 +1,7 @@
 -- What a run of the program promises, on one page.
 use Rattle.std.specs.Prelude.{◌≡◌, ◌≢◌, ◌<◌, ◌≤◌, ◌⊎◌, ℕ, List, [], ◌∷◌, length, map, reverse, count_by, ◌++◌, slice_get, Option, Some, IfSome, String, string_bytes, All}
 use Rattle.std.specs.Global.{Global}
+use Rattle.walter_base.specs.declared.format.Format.{Format}
 use Rattle.walter_base.specs.declared.names.SiteId.{SiteId}
 use Rattle.walter_cell.specs.Entries.{HaveRisingStamps}
 use Rattle.walter_cluster.specs.Benches.{IsLaidFor, shape_of}
@@ -18,7 +19,7 @@ use Rattle.walter_refinement.specs.Spelled.{psi_of}
 use Rattle.walter_rules.specs.declared.entry.Entry.{Entry}
 use Rattle.walter_rules.specs.declared.event.Event.{Event}
 use Rattle.walter_rules.specs.Knowledge.{site_at}
-use Rattle.walter_rules.specs.Layouts.{Layout}
+use Rattle.walter_rules.specs.Layouts.{Layout, header_of}
 use Rattle.walter_rules.specs.Merges.{Named, merge, trail_of, AreLinked}
 use Rattle.walter_rules.specs.Kinds.{IfCall}
 use Rattle.walter_rules.specs.Trails.{opening, standing}
@@ -167,6 +168,17 @@ pub record Runs (words : List (String Global)) (rack : Racked) (before after : O
   pub posed : IsPosed command before.left after.left scenario
   pub run : IsRun rack scenario trails
 
+-- the header of each site's journal names this format: the journal is laid out as it was, or as the scenario says
+pub record HaveHeaders (rack : Racked) (s : Scenario) (headers : List Format) : Type 0 where
+  pub one_each : length headers ≡ s.catalog.sites
+  pub each : (i : ℕ) (header : Format) → slice_get headers i ≡ Some header
+      → Holds rack i (λ bytes. (layout : Layout) × IsLaidFor s bytes layout × (header_of layout ≡ header))
+
+-- of what is to be written of these trails, by the headers of the journals, P holds
+abbrev pub OfText : Racked → Command → Scenario → List (List Entry) → (List ℕ → Type 0) → Type 0
+OfText rack command s trails P =
+    (headers : List Format) × HaveHeaders rack s headers × P (written_by command s headers trails)
+
 -- it is a whole run, all disks were given back, and what was written of it is so: its report, with the trace behind it where
 -- one is asked for, or its summary
 pub record RunsWhole (words : List (String Global)) (rack : Racked) (before after : Outside)
@@ -178,7 +190,7 @@ pub record RunsWhole (words : List (String Global)) (rack : Racked) (before afte
   pub arms : ArmsOfSites
   pub run : IsWholeRun rack command scenario trails arms
   pub disks_given_back : rack.all scenario.catalog.sites (λ i. IsDiskOfWhole rack scenario trails arms i)
-  pub bytes_written : Written (written_by command scenario trails)
+  pub bytes_written : OfText rack command scenario trails Written
 
 -- the words ask for no run, and a text was written, of a help or of the version; nothing was read, and no disk was taken
 pub record Says (words : List (String Global)) (rack : Racked) (before after : Outside) (trails : List (List Entry))

@@ -1,6 +1,7 @@
 -- What is run of a command, and what is written of it.
 use Rattle.std.specs.Prelude.{◌≡◌, ◌≤◌, ◌⊎◌, ℕ, List, [], Option, Some, map, string_bytes, String}
 use Rattle.std.specs.Global.{Global}
+use Rattle.walter_base.specs.declared.format.Format.{Format}
 use Rattle.walter_make.specs.Made.{made}
 use Rattle.walter_report.specs.Summaries.{summary_text}
 use Rattle.walter_rules.specs.declared.entry.Entry.{Entry}
@@ -67,9 +68,10 @@ IsPosed (Run trace disks) before after s = (read : Scenario) × IsTaken before a
 IsPosed (Load seed calls) before after s = (s ≡ made seed calls) × (after ≡ before)
 IsPosed (Say text) before after s = ⊥
 
--- what is written of a run with these trails: its report, with the trace behind it where one is asked for, or its summary
-abbrev pub written_by : Command → Scenario → List (List Entry) → List ℕ
-written_by (Play trace disks) s trails = text_of trace s trails
-written_by (Run trace disks) s trails = text_of trace s trails
-written_by (Load seed calls) s trails = summary_text seed calls trails
-written_by (Say text) s trails = []
+-- what is written of a run with these trails, over journals whose headers name these formats: its report, with the trace
+-- behind it where one is asked for, or its summary
+abbrev pub written_by : Command → Scenario → List Format → List (List Entry) → List ℕ
+written_by (Play trace disks) s headers trails = text_of trace s headers trails
+written_by (Run trace disks) s headers trails = text_of trace s headers trails
+written_by (Load seed calls) s headers trails = summary_text seed calls trails
+written_by (Say text) s headers trails = []

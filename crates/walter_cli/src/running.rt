@@ -1,5 +1,7 @@
 //! Runs a scenario over the disks of a rack, and writes what is to be said of it.
-ghost use Rattle.std.specs.Prelude.{◌≡◌, ◌≤◌, ◌<◌, ◌++◌, length, IfOk, OnOk, IfErr};
+ghost use Rattle.std.specs.Prelude.{◌≡◌, ◌≤◌, ◌<◌, ◌++◌, All, length, IfOk, OnOk, IfErr};
+ghost use Rattle.walter_base.specs.declared.format.Format.{Format as Header};
+ghost use Rattle.walter_base.specs.Sizes.{most_in};
 ghost use Rattle.walter_base.specs.Vectors.{most_sites};
 ghost use Rattle.walter_cluster.specs.Benches.{AreAllConnected, AreMet, EachKeeps, IsOf, IsToldAt};
 ghost use Rattle.walter_cluster.specs.Moments.{IsFirst, moment_of};
@@ -20,7 +22,7 @@ use std::alloc::Global;
 use std::mem;
 use std::sync::Wait;
 use std::thread::Threads;
-use walter_base::Mem;
+use walter_base::{Format, Mem};
 use walter_cluster::{Bench, Closed, Unbuilt, build};
 use walter_disk::{Disk, Rack};
 use walter_engine::BeginFault;
@@ -56,6 +58,7 @@ pub fn run<X: Threads + Wait + Sync, K: Sink, R: Rack>(
         Err(fault) => return Ended::early(alloc, fault),
     };
     let (bench, driven) = drive(rt, alloc, command, bench, scenario);
+    let headers = bench.headers(alloc);
     let Closed {
         trails,
         disks,
@@ -67,10 +70,13 @@ pub fn run<X: Threads + Wait + Sync, K: Sink, R: Rack>(
     if driven.is_err() {
         return Ended::late(trails, Some(Fault::Memory));
     }
+    let Ok(headers) = headers else {
+        return Ended::late(trails, Some(Fault::Memory));
+    };
     if let Err(site) = given {
         return Ended::late(trails, Some(Fault::Rack { site }));
     }
-    match write_result(alloc, scenario, command, &trails, sink) {
+    match write_result(alloc, scenario, command, &headers, &trails, sink) {
         Ok(()) => Ended::late(trails, None),
         Err(fault) => Ended::late(trails, Some(fault)),
     }
@@ -162,19 +168,22 @@ fn write_result<K: Sink>(
     alloc: Global,
     scenario: &Scenario,
     command: &Command,
+    headers: &[Format],
     trails: &[Trail],
     sink: &mut K,
 ) -> Result<(), Fault>
     requires running { ¬ IsText command.now }
     requires few { length trails.now ≤ most_sites }
     requires frames { HaveFrames trails.now }
-    requires records { HaveSpellings trails.now }
+    requires headers { (length headers.now ≡ length trails.now)
+        × All (λ (header : Header). length trails.now ≤ most_in header) headers.now }
+    requires records { HaveSpellings (length trails.now) trails.now }
     ensures ok { OnOk result
-        (Appends (K.holds sink.old) (K.holds sink.new) (written_by command.now scenario.now trails.now)) }
-    ensures fault { IfErr result (IsWriteFault (written_by command.now scenario.now trails.now)
+        (Appends (K.holds sink.old) (K.holds sink.new) (written_by command.now scenario.now headers.now trails.now)) }
+    ensures fault { IfErr result (IsWriteFault (written_by command.now scenario.now headers.now trails.now)
         (K.holds sink.old) (K.holds sink.new) (K.faults sink.old) (K.faults sink.new)) }
 {
-    match write_text(alloc, scenario, command, trails, sink) {
+    match write_text(alloc, scenario, command, headers, trails, sink) {
         Ok(()) => Ok(()),
         Err(WriteFault::NoMemory) => Err(Fault::Memory),
         Err(WriteFault::Failed) => Err(Fault::Write),
@@ -186,21 +195,24 @@ fn write_text<K: Sink>(
     alloc: Global,
     scenario: &Scenario,
     command: &Command,
+    headers: &[Format],
     trails: &[Trail],
     sink: &mut K,
 ) -> Result<(), WriteFault>
     requires running { ¬ IsText command.now }
     requires few { length trails.now ≤ most_sites }
     requires frames { HaveFrames trails.now }
-    requires records { HaveSpellings trails.now }
+    requires headers { (length headers.now ≡ length trails.now)
+        × All (λ (header : Header). length trails.now ≤ most_in header) headers.now }
+    requires records { HaveSpellings (length trails.now) trails.now }
     ensures ok { OnOk result
-        (Appends (K.holds sink.old) (K.holds sink.new) (written_by command.now scenario.now trails.now)) }
-    ensures fault { IfErr result (IsUnwritten (written_by command.now scenario.now trails.now)
+        (Appends (K.holds sink.old) (K.holds sink.new) (written_by command.now scenario.now headers.now trails.now)) }
+    ensures fault { IfErr result (IsUnwritten (written_by command.now scenario.now headers.now trails.now)
         (K.holds sink.old) (K.holds sink.new) (K.faults sink.old) (K.faults sink.new)) }
 {
     match command {
         Command::Play { trace, .. } | Command::Run { trace, .. } => {
-            write_report(alloc, scenario, *trace, trails, sink)
+            write_report(alloc, scenario, *trace, headers, trails, sink)
         }
         Command::Load { seed, calls } => write_summary(alloc, *seed, *calls, trails, sink),
         Command::Say(_) => unreachable!(),

@@ -1,6 +1,6 @@
 -- The bodies of a journal, and the records that they spell.
 use Rattle.std.proofs.Common.{◌≡◌, ℕ, zero, suc, ◌+◌, ◌<◌, List, [], ◌∷◌, ◌++◌, length, map, take, get_or, true, false, Option, Some, Result, Ok, Err, refl, ap, sym, ◌∙◌, subst}
-use Rattle.std.specs.Prelude.{All, IfSome, IfErr, OnOk, slice_get, option_map}
+use Rattle.std.specs.Prelude.{◌≢◌, All, IfSome, IfErr, OnOk, slice_get, option_map}
 use Rattle.std.specs.List.{AllByRecursion}
 use Rattle.std.proofs.lemmas.List.{take-map, map_more}
 use Rattle.std.proofs.lemmas.List.Elements.{All-nil, recursion_from_All}
@@ -57,6 +57,15 @@ again header tables body rec has is says = λ K stands.
     let once : says_again rec (format_in header tables) ≡ false =
     subst (λ r. says_again r (format_in header tables) ≡ false) same other_has.once in
     cc)
+
+-- one that spells none
+pub none_spelled : (header : Format) (tables : Tables) (body : List ℕ)
+    → ((rec : Record) → HasRecordSpelling (format_in header tables) (catalog_of tables).sites rec
+    → body ≢ record_spelled (format_in header tables) rec) → IsUnfit header tables body Unfit
+none_spelled header tables body none = λ K stands.
+    let none_in : Format → Type 0 = λ format. (other : Record) → CanStandIn (in_force header format) (catalog_of tables).sites other
+    → body ≡ record_spelled (in_force header format) other → ¬ CanFollow (catalog_of tables) (site_of tables) K other in
+    subst none_in stands.format (λ other other_has other_is follows. none other other_has.spelling other_is)
 
 -- one whose record is replayed
 takes : (header : Format) (old new : Tables) (body : List ℕ) (rec : Record)

@@ -48,6 +48,17 @@ module _ (g : Over) (c : After-give_all-given g) where
       c.close-trails.result.disks.items trails built driven.cells driven.homes closed.bench closed.sound driven.arms
       closed.gives.trails closed.gives.disks closed.linked c.give_all-given.ensures.given c.requires.playable.whole
 
+  -- the headers of its journals
+  headers_of_run : (headers : List Format)
+      → headers ≡ map (λ (x : CellValue g.row.R-D.Denot). header_of x.node.layout) c.drive-bench.result.0.cells
+      → HaveHeaders rack c.args.scenario.now headers
+  headers_of_run =
+      let driven = c.drive-bench.ensures in
+      let closed = c.close-trails.ensures in
+      headers_are g.R.D.Disk c.args.scenario.now before mid after c.in-Ok.bench c.drive-bench.result.0
+      c.close-trails.result.disks.items trails built driven.cells driven.homes closed.bench closed.sound driven.arms
+      closed.gives.trails closed.gives.disks closed.linked c.give_all-given.ensures.given
+
   -- where it was driven to its end, it is a whole run
   whole : is_err c.drive-bench.result.1 ≡ false
       → IsWholeRun rack c.args.command.now c.args.scenario.now trails (arms_at g.R.D.Disk c.drive-bench.result.0.cells)
@@ -102,13 +113,16 @@ module _ (g : Over) (c : After-give_all-given g) where
       (frames g.R.D.Disk c.args.scenario.now c.drive-bench.result.0 is_of
       c.close-trails.ensures.bench c.close-trails.ensures.sound)
 
-  spelled : HaveSpellings trails
-  spelled = subst HaveSpellings (sym c.close-trails.ensures.gives.trails)
+  spelled : HaveSpellings (length trails) trails
+  spelled = subst (λ ts. HaveSpellings (length ts) ts) (sym c.close-trails.ensures.gives.trails)
       (spellings g.R.D.Disk c.args.scenario.now c.drive-bench.result.0 is_of
       c.close-trails.ensures.bench c.close-trails.ensures.sound)
 
 pub returns-then-is_err-clause-given_back : goal.returns-then-is_err-clause-given_back
 returns-then-is_err-clause-given_back g c = back g (goal.at.returns-then-is_err-clause-given_back g c).After-give_all-given
+
+pub returns-in_default-headers-clause-given_back : goal.returns-in_default-headers-clause-given_back
+returns-in_default-headers-clause-given_back g c = back g (goal.at.returns-in_default-headers-clause-given_back g c).After-give_all-given
 
 pub returns-in-Err-given-clause-given_back : goal.returns-in-Err-given-clause-given_back
 returns-in-Err-given-clause-given_back g c = back g (goal.at.returns-in-Err-given-clause-given_back g c).After-give_all-given
@@ -123,6 +137,10 @@ pub returns-then-is_err-clause-unfailing : goal.returns-then-is_err-clause-unfai
 returns-then-is_err-clause-unfailing g c = λ enough rose.
     let same = sure g (goal.at.returns-then-is_err-clause-unfailing g c).After-give_all-given enough in omega (arith, rose, same)
 
+pub returns-in_default-headers-clause-unfailing : goal.returns-in_default-headers-clause-unfailing
+returns-in_default-headers-clause-unfailing g c = λ enough rose.
+    let same = sure g (goal.at.returns-in_default-headers-clause-unfailing g c).After-give_all-given enough in omega (arith, rose, same)
+
 pub returns-in-Err-given-clause-unfailing : goal.returns-in-Err-given-clause-unfailing
 returns-in-Err-given-clause-unfailing g c = λ enough rose.
     let same = sure g (goal.at.returns-in-Err-given-clause-unfailing g c).After-give_all-given enough in omega (arith, rose, same)
@@ -133,6 +151,12 @@ returns-then-is_err-clause-run g c =
     let at = (goal.at.returns-then-is_err-clause-run g c).After-give_all-given in
     ends_with _ c.args.command.now c.args.scenario.now _ _ _ _ (trails g at) _ (Some Memory) _ (inr (run g at), refl)
     (ap (λ (v : Vec Trail Global). v.items) c.late.ensures.trails) c.late.ensures.fault
+
+pub returns-in_default-headers-clause-run : goal.returns-in_default-headers-clause-run
+returns-in_default-headers-clause-run g c =
+    let at = (goal.at.returns-in_default-headers-clause-run g c).After-give_all-given in
+    ends_with _ c.args.command.now c.args.scenario.now _ _ _ _ (trails g at) _ (Some Memory) _ (inr (run g at), refl)
+    (ap (λ (v : Vec Trail Global). v.items) c.late-in_default-headers.ensures.trails) c.late-in_default-headers.ensures.fault
 
 -- a disk could not be given back
 pub returns-in-Err-given-clause-run : goal.returns-in-Err-given-clause-run
@@ -159,9 +183,23 @@ pub write_result-requires-clause-frames : goal.write_result-requires-clause-fram
 write_result-requires-clause-frames g c =
     subst HaveFrames (sym c.deref.ensures.value) (short g (goal.at.write_result-requires-clause-frames g c).After-give_all-given)
 
+pub write_result-requires-clause-headers : goal.write_result-requires-clause-headers
+write_result-requires-clause-headers g c =
+    let named = c.in-Ok-headers.ensures in
+    let long : length c.deref.result.now ≡ length c.drive-bench.result.0.cells =
+    ap length (c.deref.ensures.value ∙ c.close-trails.ensures.gives.trails)
+    ∙ length-map c.drive-bench.result.0.cells (λ (x : CellValue g.row.R-D.Denot). x.node.trail) in
+    let given = c.deref-2.ensures.value in
+    (
+      ap length (given ∙ named.headers)
+      ∙ length-map c.drive-bench.result.0.cells (λ (x : CellValue g.row.R-D.Denot). header_of x.node.layout) ∙ sym long,
+      subst (λ n. All (λ (h : Format). n ≤ most_in h) c.deref-2.result.now) (sym long)
+      (subst (λ hs. All (λ (h : Format). length c.drive-bench.result.0.cells ≤ most_in h) hs) (sym given) named.places),
+    )
+
 pub write_result-requires-clause-records : goal.write_result-requires-clause-records
 write_result-requires-clause-records g c =
-    subst HaveSpellings (sym c.deref.ensures.value) (spelled g (goal.at.write_result-requires-clause-records g c).After-give_all-given)
+    subst (λ ts. HaveSpellings (length ts) ts) (sym c.deref.ensures.value) (spelled g (goal.at.write_result-requires-clause-records g c).After-give_all-given)
 
 -- the report was written whole
 pub returns-in-Ok-write_result-clause-run : goal.returns-in-Ok-write_result-clause-run
