@@ -2,7 +2,7 @@
 use crate::playing::Run;
 use anyhow::{Result, bail};
 use std::alloc::Global;
-use walter_base::{Format, MaybeRecord, Mem, Record};
+use walter_base::{Format, MOST_SITES, MaybeRecord, Mem, Record};
 use walter_checkpoint::load;
 use walter_disk_memory::MemoryDisk;
 use walter_record::decode;
@@ -109,20 +109,33 @@ fn line_of(alloc: Global, rec: &Record) -> Mem<String> {
 // The records of a disk's journal, a line for each. A disk that is broken settles first, as its arm chooses.
 fn held_by(alloc: Global, disk: MemoryDisk, scenario: &Scenario) -> Result<String> {
     let sites = scenario.catalog.sites;
-    if sites > 8 {
-        bail!("there are more than eight sites");
+    if usize::from(sites) > MOST_SITES {
+        bail!("there are more than sixteen sites");
     }
-    // How many areas there are is told by the bytes.
-    let Ok((_book, bodies)) = load(alloc, disk, scenario.capacity, 1, sites) else {
+    // How many areas there are, and in which format the first record is, is told by the bytes.
+    let Ok((book, bodies)) = load(alloc, disk, scenario.capacity, 1, sites, Format::Second) else {
         bail!("a disk that is given back has no journal");
     };
+    let mut format = book.format();
     let mut held = String::new(alloc);
     for body in &bodies.into_vec() {
-        // No step of a scenario brings a journal to the second format.
-        let Some(rec) = decode(alloc, body, sites, Format::First)? else {
+        let Some(rec) = record_in(alloc, body, sites, format)? else {
             bail!("a body spells no record");
         };
+        if let Record::Format = rec {
+            format = Format::Second;
+        }
         held.push_str(&line_of(alloc, &rec)?)?;
     }
     Ok(held)
+}
+
+// The record that a body spells in a format; none where that has no places for so many sites.
+fn record_in(alloc: Global, body: &[u8], sites: u8, format: Format) -> Mem<Option<Record>> {
+    match format {
+        Format::First if sites > 8 => Ok(None),
+        Format::First => decode(alloc, body, sites, Format::First),
+        Format::Second if usize::from(sites) > MOST_SITES => Ok(None),
+        Format::Second => decode(alloc, body, sites, Format::Second),
+    }
 }

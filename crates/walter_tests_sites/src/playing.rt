@@ -4,6 +4,7 @@ use anyhow::{Result, bail};
 use std::alloc::Global;
 use std::sync::{ArcSlice, Wait};
 use std::thread::Threads;
+use walter_base::MOST_SITES;
 use walter_cli::{Ended, top};
 use walter_disk_memory::MemoryDisk;
 use walter_psi::first_illegal;
@@ -54,8 +55,8 @@ pub(crate) fn play(
 
 /// The history that the trails spell, in which the checker finds no step that isn't legal.
 pub(crate) fn legal_history(alloc: Global, trails: &[Trail]) -> Result<Steps> {
-    if trails.len() > 8 {
-        bail!("there are more than eight sites");
+    if trails.len() > MOST_SITES {
+        bail!("there are more than sixteen sites");
     }
     let merged = merge(alloc, trails)?;
     let history = psi_of(alloc, &merged)?;

@@ -1,7 +1,7 @@
 //! The events of a run once more, at the sites without disks.
 use anyhow::{Result, bail};
 use std::alloc::Global;
-use walter_base::{Bytes, Mem, SiteId};
+use walter_base::{Bytes, MOST_SITES, Mem, SiteId};
 use walter_rules::{Entry, Event, Input, Outcome};
 use walter_scenario::{Scenario, read};
 use walter_trail::{Trail, merge};
@@ -44,8 +44,8 @@ fn what_of(alloc: Global, entry: &Entry, clients: &mut [Frames]) -> Mem<What> {
             number: *number,
         },
         Event::Given(Input::Advance { from }) => What::Advance { from: *from },
-        // No scenario upgrades a site.
-        Event::Given(Input::Tick | Input::Upgrade) => What::Tick,
+        Event::Given(Input::Tick) => What::Tick,
+        Event::Given(Input::Upgrade) => What::Upgrade,
         Event::Stop => What::Stop,
         Event::Restart => What::Restart {
             kept: entry.came.kept.as_ref().is_some(),
@@ -109,8 +109,8 @@ fn again(alloc: Global, text: &str, merged: &[(SiteId, Entry)]) -> Result<Option
 /// Has all that happened in a run of a scenario happen at sites without disks, whose trails are then the same; and whether
 /// it could: not where a disk couldn't be read.
 pub(crate) fn is_same_in_a_world(alloc: Global, text: &str, trails: &[Trail]) -> Result<bool> {
-    if trails.len() > 8 {
-        bail!("there are more than eight sites");
+    if trails.len() > MOST_SITES {
+        bail!("there are more than sixteen sites");
     }
     let merged = merge(alloc, trails)?;
     let Some(others) = again(alloc, text, merged.as_slice())? else {

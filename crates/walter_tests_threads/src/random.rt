@@ -1,4 +1,4 @@
-//! Scenarios at random, of one to eight sites and 1 to 32 threads: few objects that are fought over, links that lose, repeat
+//! Scenarios at random, of one to sixteen sites and 1 to 32 threads: few objects that are fought over, links that lose, repeat
 //! and swap, and disks that fail.
 ghost use Rattle.std.specs.Prelude.{◌<◌};
 
@@ -99,7 +99,7 @@ fn push_link(random: &mut Pcg32, text: &mut String, sites: u32) -> Mem<()>
 fn scenario_of(alloc: Global, seed: u64) -> Mem<String> {
     let mut random = Pcg32::new(seed, 1);
     let mut text = String::new(alloc);
-    let sites = 1 + below(&mut random, 8);
+    let sites = 1 + below(&mut random, 16);
     let tolerated = below(&mut random, sites);
     let threads = 1 + below(&mut random, 32);
     let ticks = below(&mut random, 10);

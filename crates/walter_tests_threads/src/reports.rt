@@ -5,7 +5,7 @@ ghost use Rattle.walter_report.specs.Reports.{HaveFrames, reply_in};
 
 use anyhow::{Result, bail};
 use std::alloc::Global;
-use walter_base::Reply;
+use walter_base::{MOST_SITES, Reply};
 use walter_reply::which_fit;
 use walter_report::write_report;
 use walter_rules::{Entry, Outcome};
@@ -53,11 +53,11 @@ pub(crate) fn check_report(
     if !have_frames(trails) {
         bail!("a reply has no frame");
     }
-    if trails.len() > 8 {
-        bail!("there are more than eight sites");
+    if trails.len() > MOST_SITES {
+        bail!("there are more than sixteen sites");
     }
     let mut sink = MemorySink::with_room(alloc, written.len(), Vec::new(alloc))?;
-    write_report(alloc, &scenario, false, trails, &mut sink)?;
+    write_report(alloc, &scenario, false, &[], trails, &mut sink)?;
     if sink.as_slice() != written {
         bail!("what is written isn't the report of the trails");
     }

@@ -4,6 +4,7 @@ use anyhow::{Result, bail};
 use std::alloc::Global;
 use std::sync::{ArcSlice, Wait};
 use std::thread::Threads;
+use walter_base::MOST_SITES;
 use walter_cli::{Ended, top_in_memory};
 use walter_psi::first_illegal;
 use walter_psi_of::psi_of;
@@ -32,8 +33,8 @@ pub(crate) fn run(
 
 /// The checker finds no step of the history that the trails spell which isn't legal.
 pub(crate) fn check_history(alloc: Global, trails: &[Trail]) -> Result<()> {
-    if trails.len() > 8 {
-        bail!("there are more than eight sites");
+    if trails.len() > MOST_SITES {
+        bail!("there are more than sixteen sites");
     }
     let history = psi_of(alloc, &merge(alloc, trails)?)?;
     if let Some(place) = first_illegal(alloc, history.as_slice())? {

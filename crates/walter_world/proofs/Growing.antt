@@ -34,7 +34,7 @@ use Rattle.walter_world.specs.declared.events.What.TheVariants as what
 use Rattle.walter_world.specs.declared.events.WorldEvent.{WorldEvent}
 use Rattle.walter_world.specs.Comings.{found_by, came_by, came_broken, entry_of}
 use Rattle.walter_machine.specs.Posts.{of_number}
-use Rattle.walter_world.specs.Events.{Brings, a_call, a_packet, an_advance, a_tick, a_stop, a_restart, keeps}
+use Rattle.walter_world.specs.Events.{Brings, a_call, a_packet, an_advance, a_tick, an_upgrade, a_stop, a_restart, keeps}
 use Rattle.walter_world.specs.Worlds.{AreOpenings, AreRightWithPlace, KeepPromises, HasHappened, StepsTo, HaveHappened, nothing, one_more}
 
 -- ---- one entry
@@ -97,6 +97,7 @@ module _ (trails : List (List Entry)) (i : SiteId) where
   next_stamp what event put last (a_packet from number stamp packet is) = omega arith
   next_stamp what event put last (an_advance from) = omega arith
   next_stamp what event put last a_tick = omega arith
+  next_stamp what event put last an_upgrade = omega arith
   next_stamp what event put last a_stop = omega arith
   next_stamp what event put last (a_restart kept) = omega arith
 
@@ -106,6 +107,7 @@ module _ (trails : List (List Entry)) (i : SiteId) where
   found_by_event what event put S (a_packet from number stamp packet is) = tt
   found_by_event what event put S (an_advance from) = tt
   found_by_event what event put S a_tick = tt
+  found_by_event what event put S an_upgrade = tt
   found_by_event what event put S a_stop = tt
   found_by_event what event put S (a_restart kept) = found_there kept S
 
@@ -213,6 +215,7 @@ module _ (catalog : Catalog) (old new : List (List Entry)) (w : WorldEvent) (hap
       }
   link_here what event put (an_advance from) j number packet last is = absurd cc
   link_here what event put a_tick j number packet last is = absurd cc
+  link_here what event put an_upgrade j number packet last is = absurd cc
   link_here what event put a_stop j number packet last is = absurd cc
   link_here what event put (a_restart kept) j number packet last is = absurd cc
 

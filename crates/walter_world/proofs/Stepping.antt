@@ -24,7 +24,7 @@ use Rattle.walter_world.specs.declared.events.What.{What}
 use Rattle.walter_world.specs.declared.events.WorldEvent.{WorldEvent}
 use Rattle.walter_world.specs.Comings.{entry_of}
 use Rattle.walter_machine.specs.Posts.{of_number}
-use Rattle.walter_world.specs.Events.{Brings, a_call, a_packet, an_advance, a_tick, a_stop, a_restart, IsWithin, keeps}
+use Rattle.walter_world.specs.Events.{Brings, a_call, a_packet, an_advance, a_tick, an_upgrade, a_stop, a_restart, IsWithin, keeps}
 use Rattle.walter_world.specs.Seats.{AreSpelled, MayFind}
 use Rattle.walter_world.specs.Worlds.{AreEarly, HasHappened}
 use Rattle.walter_world.proofs.Clocks.{put_later}
@@ -67,6 +67,7 @@ module _ (catalog : Catalog) (trails : List (List Entry)) (i : SiteId) where
       let now = early i in omega (arith, now)
   put_early layouts bound right early what event put within (an_advance from) = let now = early i in omega (arith, now)
   put_early layouts bound right early what event put within a_tick = let now = early i in omega (arith, now)
+  put_early layouts bound right early what event put within an_upgrade = let now = early i in omega (arith, now)
   put_early layouts bound right early what event put within a_stop = let now = early i in omega (arith, now)
   put_early layouts bound right early what event put within (a_restart kept) = let now = early i in omega (arith, now)
 
@@ -79,6 +80,7 @@ module _ (catalog : Catalog) (trails : List (List Entry)) (i : SiteId) where
   event_sized all what event put within (a_call client body call calls) = tt
   event_sized all what event put within (an_advance from) = tt
   event_sized all what event put within a_tick = tt
+  event_sized all what event put within an_upgrade = tt
   event_sized all what event put within a_stop = tt
   event_sized all what event put within (a_restart kept) = tt
 
@@ -87,6 +89,7 @@ module _ (catalog : Catalog) (trails : List (List Entry)) (i : SiteId) where
   may_find what event put (a_packet from number stamp packet is) = refl
   may_find what event put (an_advance from) = refl
   may_find what event put a_tick = refl
+  may_find what event put an_upgrade = refl
   may_find what event put a_stop = refl
   may_find what event put (a_restart kept) = tt
 

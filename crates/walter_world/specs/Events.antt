@@ -12,7 +12,7 @@ use Rattle.walter_rules.specs.declared.event.Event.TheVariants as event
 use Rattle.walter_rules.specs.declared.event.Input.TheVariants as input
 use Rattle.walter_rules.specs.Merges.{Stamped, put_out_to, trail_of}
 use Rattle.walter_world.specs.declared.events.What.{What}
-use Rattle.walter_world.specs.declared.events.What.TheVariants.{Call, Deliver, Advance, Tick, Stop, Restart}
+use Rattle.walter_world.specs.declared.events.What.TheVariants.{Call, Deliver, Advance, Tick, Upgrade, Stop, Restart}
 
 -- the packet of a number that a site has put out to another
 abbrev pub put_by : List (List Entry) → SiteId → SiteId → ℕ → Option Stamped
@@ -27,6 +27,7 @@ pub data Brings (trails : List (List Entry)) (i : SiteId) : What → Event → �
       → Brings trails i (Deliver from number) (event.Given (input.Deliver from number packet)) put
   an_advance : (from : SiteId) → Brings trails i (Advance from) (event.Given (input.Advance from)) 0
   a_tick : Brings trails i Tick (event.Given input.Tick) 0
+  an_upgrade : Brings trails i Upgrade (event.Given input.Upgrade) 0
   a_stop : Brings trails i Stop event.Stop 0
   a_restart : (kept : Bool) → Brings trails i (Restart kept) event.Restart 0
 

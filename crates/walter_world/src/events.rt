@@ -21,6 +21,8 @@ pub enum What {
     Advance { from: SiteId },
     /// The site is to say again what its peers may have missed.
     Tick,
+    /// Its records are to be in the second format from now on.
+    Upgrade,
     /// It loses its memory.
     Stop,
     /// It is to come up, and finds the record in flight, if there is one, or doesn't.

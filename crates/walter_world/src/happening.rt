@@ -51,6 +51,7 @@ pub(crate) fn happening_of(
         What::Deliver { from, number } => delivery(seats, site, from, number),
         What::Advance { from } => Ok(Some(alone(Event::Given(Input::Advance { from })))),
         What::Tick => Ok(Some(alone(Event::Given(Input::Tick)))),
+        What::Upgrade => Ok(Some(alone(Event::Given(Input::Upgrade)))),
         What::Stop => Ok(Some(alone(Event::Stop))),
         What::Restart { kept } => Ok(Some(Happening {
             event: Event::Restart,

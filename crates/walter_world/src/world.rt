@@ -136,7 +136,7 @@ fn is_within(sites: u8, what: &What) -> bool
     match what {
         What::Call { body, .. } => body.as_slice().len() <= LONGEST_BODY,
         What::Deliver { from, .. } | What::Advance { from } => from.0 < sites,
-        What::Tick | What::Stop | What::Restart { .. } => true,
+        What::Tick | What::Upgrade | What::Stop | What::Restart { .. } => true,
     }
 }
 

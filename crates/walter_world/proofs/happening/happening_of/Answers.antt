@@ -3,7 +3,7 @@ use Rattle.walter_rules.specs.declared.event.Event.TheVariants as event
 use Rattle.walter_rules.specs.declared.event.Input.TheVariants as input
 use Rattle.walter_conn.specs.Frames.{CallsFor}
 use Rattle.walter_world.specs.declared.events.What.TheVariants as what
-use Rattle.walter_world.specs.Events.{a_call, an_advance, a_tick, a_stop, a_restart}
+use Rattle.walter_world.specs.Events.{a_call, an_advance, a_tick, an_upgrade, a_stop, a_restart}
 use Rattle.walter_world.specs.Worlds.{trails_of}
 use Rattle.walter_world.proofs.Bringing.{happens}
 use Rattle.walter_world.proofs.happening.happening_of.Goals as goal
@@ -25,6 +25,11 @@ pub returns-in-Tick : goal.returns-in-Tick
 returns-in-Tick c =
     happens (trails_of c.args.seats.now) c.args.site c.args.what what.Tick (event.Given input.Tick) 0 false
     c.alone-in-Tick.result c.in-Tick.is c.alone-in-Tick.ensures a_tick refl
+
+pub returns-in-Upgrade : goal.returns-in-Upgrade
+returns-in-Upgrade c =
+    happens (trails_of c.args.seats.now) c.args.site c.args.what what.Upgrade (event.Given input.Upgrade) 0 false
+    c.alone-in-Upgrade.result c.in-Upgrade.is c.alone-in-Upgrade.ensures an_upgrade refl
 
 pub returns-in-Stop : goal.returns-in-Stop
 returns-in-Stop c =
