@@ -34,7 +34,7 @@ enum Loader {
 const LOADERS: [Loader; 2] = [Loader::Journal, Loader::Book];
 
 /// Bytes of gates, marks and switches, headers, lengths, bodies, a record and an entry.
-static PIECES: [&[u8]; 16] = [
+static PIECES: [&[u8]; 18] = [
     &[0],
     &[1],
     &[2],
@@ -42,7 +42,9 @@ static PIECES: [&[u8]; 16] = [
     &[7],
     &[255],
     b"WALTERJ1",
+    b"WALTERJ2",
     b"WALTERK1",
+    b"WALTERK2",
     &[0, 0, 0, 5],
     &[0, 1, 0, 1],
     &[0, 0, 0, 0, 0, 0, 0, 0],
@@ -156,7 +158,7 @@ fn spelled(alloc: Global, bodies: &[Vec<u8>], pack: u64) -> Result<Vec<u8>, Allo
 /// How many bytes the pack of the live area has, and what stands behind that number. One area has no pack.
 fn live_area(bytes: &[u8]) -> Option<(u64, &[u8])> {
     let (header, rest) = bytes.split_at_checked(8)?;
-    if header == b"WALTERJ1".as_slice() {
+    if header.starts_with(b"WALTERJ") {
         return Some((0, rest));
     }
     let begins = if rest.first() == Some(&1) {

@@ -6,6 +6,7 @@ ghost use Rattle.walter_checkpoint.specs.Loads.{IsAreas};
 use crate::journals::{BOOT, FIRST_COMMIT, LONGEST_BODY};
 use std::alloc::Global;
 use std::test::Fail;
+use walter_base::Format;
 use walter_checkpoint::{Book, load};
 use walter_disk::Disk;
 use walter_disk_memory::MemoryDisk;
@@ -38,7 +39,7 @@ fn restart<D: Disk>(
     ensures { IsSome (D.known disk).reads → IfOk result (λ it.
         it.2 ≡ Ending.Ended (Ok tt) → StandsFor it.0 (it.1 ++ body.now ∷ [])) }
 {
-    let (mut book, bodies) = load(alloc, disk, capacity, areas, 1)?;
+    let (mut book, bodies) = load(alloc, disk, capacity, areas, 1, Format::First)?;
     if book.arm(arm.0, arm.1).is_err() {
         return Ok((book, bodies, Ending::NoRoom));
     }
@@ -53,7 +54,7 @@ fn restart<D: Disk>(
 }
 
 /// One area or two, where the capacity is great enough for two.
-fn areas_in(two: bool, capacity: u64) -> u8
+pub(crate) fn areas_in(two: bool, capacity: u64) -> u8
     ensures { IsAreas result capacity }
 {
     if two && capacity >= 47 { 2 } else { 1 }
@@ -66,7 +67,14 @@ pub(crate) fn loaded(
     two: bool,
     capacity: u64,
 ) -> Result<(Book<MemoryDisk>, Vec<Vec<u8>>), JournalFault> {
-    match load(alloc, disk, capacity, areas_in(two, capacity), 1) {
+    match load(
+        alloc,
+        disk,
+        capacity,
+        areas_in(two, capacity),
+        1,
+        Format::First,
+    ) {
         Ok((book, bodies)) => Ok((book, bodies.into_vec())),
         Err((_disk, fault)) => Err(fault),
     }
@@ -250,7 +258,7 @@ fn count_behind_a_stop(alloc: Global, nth: u64, choice: u64) -> Result<usize, Fa
 fn count_behind_a_failed_load(alloc: Global, choice: u64) -> Result<usize, Fail> {
     let mut disk = filled(alloc, true, 293)?;
     disk.arm(1, choice)?;
-    match load(alloc, disk, 293, 2, 1) {
+    match load(alloc, disk, 293, 2, 1, Format::First) {
         Ok(_) => Err("the load met no stop".into()),
         Err((disk, _fault)) => count_of(alloc, disk, true, 293),
     }
@@ -291,7 +299,7 @@ fn disk_of_a_stopped_start(alloc: Global, nth: u64, choice: u64) -> Result<Memor
     }
     let mut disk = MemoryDisk::new(alloc);
     disk.arm(nth, choice)?;
-    match load(alloc, disk, 300_000, 2, 1) {
+    match load(alloc, disk, 300_000, 2, 1, Format::First) {
         Ok(_) => Err("the load met no stop".into()),
         Err((mut disk, _fault)) => {
             disk.reserve(0, 1)?;

@@ -20,8 +20,8 @@ pub(crate) fn loaded(
     disk: MemoryDisk,
     capacity: u64,
 ) -> Result<(Journal<MemoryDisk>, Vec<Vec<u8>>), JournalFault> {
-    match load(alloc, disk, capacity) {
-        Ok((journal, bodies)) => Ok((journal, bodies.into_vec())),
+    match load(alloc, disk, capacity, Format::First) {
+        Ok((journal, bodies, _format)) => Ok((journal, bodies.into_vec())),
         Err((_disk, fault)) => Err(fault),
     }
 }

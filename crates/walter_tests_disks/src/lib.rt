@@ -8,6 +8,8 @@ mod books;
 #[cfg(test)]
 mod disks;
 #[cfg(test)]
+mod formats;
+#[cfg(test)]
 mod journals;
 #[cfg(test)]
 mod streams;
