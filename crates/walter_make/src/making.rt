@@ -8,7 +8,7 @@ ghost use Rattle.walter_make.specs.Made.{made, made_catalog};
 use crate::calls::{draw_calls, steps_of};
 use crate::clients::{SITES, clients_of};
 use std::alloc::Global;
-use walter_base::{Catalog, Kind, Mem, NoMemory, SiteId};
+use walter_base::{Catalog, Format, Kind, Mem, NoMemory, SiteId};
 use walter_link::{Link, Rates};
 use walter_scenario::{
     Arms, COMMON_AREAS, COMMON_CAPACITY, COMMON_ROOM, COMMON_THREADS, Clients, MOST_TICKS,
@@ -22,6 +22,7 @@ pub fn make(alloc: Global, number: u64, calls: u32) -> Mem<Scenario>
     // It can be built and played.
     ensures some { IfOk result (λ scenario. 0 < scenario.catalog.sites) }
     ensures few { IfOk result (λ scenario. scenario.catalog.sites ≤ most_in First) }
+    ensures fits { IfOk result (λ scenario. scenario.catalog.sites ≤ most_in scenario.format) }
     ensures fewer { IfOk result (λ scenario. scenario.catalog.tolerated < scenario.catalog.sites) }
     ensures place { IfOk result (λ scenario. 19 ≤ scenario.capacity) }
     ensures areas { IfOk result (λ scenario. IsAreas scenario.areas scenario.capacity) }
@@ -41,6 +42,7 @@ pub fn make(alloc: Global, number: u64, calls: u32) -> Mem<Scenario>
         capacity: COMMON_CAPACITY,
         areas: COMMON_AREAS,
         room: COMMON_ROOM,
+        format: Format::First,
         link: Link {
             seed: number,
             rates: Rates {

@@ -20,6 +20,8 @@ mod replies;
 #[cfg(test)]
 mod requests;
 #[cfg(test)]
+mod scenarios;
+#[cfg(test)]
 mod transactions;
 #[cfg(test)]
 mod values;
