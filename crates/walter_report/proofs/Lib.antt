@@ -11,4 +11,5 @@ pub mod Shown
 pub mod Stands
 pub mod Tallied
 pub mod Telling
-pub mod FormatTold
+pub mod Traced
+pub mod Spelled

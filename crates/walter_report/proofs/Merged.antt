@@ -1,5 +1,5 @@
--- What holds of each entry of the trails holds of each entry of their merge.
-use Rattle.std.proofs.Common.{ℕ, ◌+◌, Bool, true, false, List, [], ◌∷◌, map, All}
+-- What holds of each entry of the trails holds of each entry of their merge; and the site of each is one of theirs.
+use Rattle.std.proofs.Common.{◌<◌, ◌≤◌, ℕ, ◌+◌, Bool, true, false, List, [], ◌∷◌, length, map, All, arith}
 use Rattle.std.specs.Prelude.{if◌then◌else◌}
 use Rattle.std.proofs.lemmas.List.Elements.{All-nil, All-cons, All-append, All-map, All-head, All-tail}
 use Rattle.walter_rules.specs.declared.entry.Entry.{Entry}
@@ -32,3 +32,21 @@ All-named_from P i (trail ∷ trails) all =
 pub All-merge : (P : Entry → Type 0) (trails : List (List Entry)) → All (λ trail. All P trail) trails
     → All (λ n. P n.1) (merge trails)
 All-merge P trails all = All-in_order (λ n. P n.1) (named_from 0 trails) (All-named_from P 0 trails all)
+
+-- the trails are those of the sites below this one
+All-below : (bound i : ℕ) (trail : List Entry) → i < bound → All (λ (e : Entry). i < bound) trail
+All-below bound i [] lt = All-nil (λ e. i < bound)
+All-below bound i (e ∷ es) lt = All-cons (λ e. i < bound) e es lt (All-below bound i es lt)
+
+named_below : (bound i : ℕ) (trails : List (List Entry)) → i + length trails ≤ bound
+    → All (λ (n : Named). n.0.0 < bound) (named_from i trails)
+named_below bound i [] few = All-nil (λ n. n.0.0 < bound)
+named_below bound i (trail ∷ trails) few =
+    All-append (λ n. n.0.0 < bound) (map (λ e. (record { 0 = i }, e)) trail) (named_from (i + 1) trails)
+    (All-map (λ n. n.0.0 < bound) (λ e. (record { 0 = i }, e)) trail (All-below bound i trail (omega (arith, few))))
+    (named_below bound (i + 1) trails (omega (arith, few)))
+
+pub merge_below : (trails : List (List Entry)) → All (λ (n : Named). n.0.0 < length trails) (merge trails)
+merge_below trails =
+    All-in_order (λ n. n.0.0 < length trails) (named_from 0 trails)
+    (named_below (length trails) 0 trails (omega arith))

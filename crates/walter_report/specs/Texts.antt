@@ -1,5 +1,6 @@
 -- What a run writes.
 use Rattle.std.specs.Prelude.{◌≡◌, ◌<◌, ℕ, Bool, true, false, List, [], ◌++◌, Option}
+use Rattle.walter_base.specs.declared.format.Format.{Format}
 use Rattle.walter_report.specs.Reports.{report_text}
 use Rattle.walter_report.specs.Traces.{trace_text}
 use Rattle.walter_report.specs.declared.fault.WriteFault.{WriteFault}
@@ -9,14 +10,14 @@ use Rattle.walter_stream.specs.Streams.{AppendsFront}
 use Rattle.walter_rules.specs.declared.entry.Entry.{Entry}
 
 -- the report, with the trace behind it where one is asked for
-abbrev pub text_of : Bool → Scenario → List (List Entry) → List ℕ
-text_of false s trails = report_text s trails
-text_of true s trails = report_text s trails ++ trace_text trails
+abbrev pub text_of : Bool → Scenario → List Format → List (List Entry) → List ℕ
+text_of false s headers trails = report_text s trails
+text_of true s headers trails = report_text s trails ++ trace_text headers trails
 
--- the trails whose entries are told one by one
-abbrev pub shown_of : Bool → List (List Entry) → List (List Entry)
-shown_of false trails = []
-shown_of true trails = trails
+-- what is shown of each site in a trace: its trail, or the format that its header names
+abbrev pub shown_of : {A : Type 0} → Bool → List A → List A
+shown_of false all = []
+shown_of true all = all
 
 -- what was written of a text where it was not written to its end: a front of it, and the sink has failed once more; or
 -- nothing, where there was no memory

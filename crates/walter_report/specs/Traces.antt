@@ -1,18 +1,18 @@
 -- The text of a trace (docs/FORMATS.md, "Reports"): a line for each entry, by stamp and then by site.
-use Rattle.std.specs.Prelude.{List, ℕ, ◌++◌, length, map, flat_map, codes, nat_le, if◌then◌else◌, Option, Some, None, Result, Ok, Err, IfSome, All}
+use Rattle.std.specs.Prelude.{List, [], ◌∷◌, ℕ, ◌++◌, map, set, slice_index_or, codes, Option, Some, None, Result, Ok, Err, IfSome, All}
 use Rattle.std.specs.Fmt.{decimal}
 use Rattle.hex.specs.Hex.{encode_lower}
 use Rattle.walter_base.specs.declared.format.Format.{Format}
-use Rattle.walter_base.specs.declared.format.Format.TheVariants.{First, Second}
+use Rattle.walter_base.specs.declared.format.Format.TheVariants.{First}
 use Rattle.walter_base.specs.declared.message.BadFrame.{BadFrame}
 use Rattle.walter_base.specs.declared.message.Record.{Record}
-use Rattle.walter_base.specs.declared.message.Record.TheVariants.{Own, Got, SlowBegin}
 use Rattle.walter_base.specs.declared.message.Request.{Request}
 use Rattle.walter_base.specs.declared.message.Request.TheVariants.{Start, Read, Write, SetAdd, SetDel, SetRead, SetReadId, Commit, Abort, Level}
 use Rattle.walter_base.specs.declared.packet.Packet.{Packet}
 use Rattle.walter_base.specs.declared.packet.Packet.TheVariants.{Propagate, Ack, Dsmark, Visible, Prepare, Vote, Release, Released}
-use Rattle.walter_base.specs.Sizes.{CanBeRecorded, most_in}
-use Rattle.walter_record.specs.Spelling.{record_spelled}
+use Rattle.walter_base.specs.declared.names.SiteId.{SiteId}
+use Rattle.walter_base.specs.Sizes.{CanBeRecorded}
+use Rattle.walter_record.specs.Spelling.{record_spelled, FitsFormat}
 use Rattle.walter_rules.specs.declared.entry.Came.{Came}
 use Rattle.walter_rules.specs.declared.entry.Entry.{Entry}
 use Rattle.walter_rules.specs.declared.event.Event.{Event}
@@ -21,20 +21,36 @@ use Rattle.walter_rules.specs.declared.event.Input.{Input}
 use Rattle.walter_rules.specs.declared.event.Input.TheVariants.{Call, Deliver, Advance, Tick, Upgrade}
 use Rattle.walter_rules.specs.declared.outcome.Outcome.{Outcome}
 use Rattle.walter_rules.specs.declared.outcome.Outcome.TheVariants.{Replied, Taken, Passed, Failed, Full, Memory, Down, Refused}
+use Rattle.walter_rules.specs.Learning.{format_after as behind}
 use Rattle.walter_rules.specs.Merges.{Named, merge}
+use Rattle.walter_rules.specs.Records.{IsRecordAmong}
 use Rattle.walter_rules.specs.Sending.{Send}
 use Rattle.walter_report.specs.Reports.{reply_frame}
 use Rattle.walter_report.specs.Words.{line_feed, listed}
 
--- each record of an entry has a spelling
-pub record HasSpellings (e : Entry) : Type 0 where
-  pub kept : IfSome e.came.kept CanBeRecorded
-  pub wrote : IfSome e.came.wrote CanBeRecorded
-  pub flight : IfSome e.came.flight CanBeRecorded
+-- the format in force behind what came of an event: a record that was kept comes first, and then one that was written
+abbrev pub format_after : Came → Format → Format
+format_after came format = behind came.wrote (behind came.kept format)
+
+-- each record of an entry has a spelling among so many sites
+pub record HasSpellings (sites : ℕ) (e : Entry) : Type 0 where
+  pub kept : IfSome e.came.kept (IsRecordAmong sites)
+  pub wrote : IfSome e.came.wrote (IsRecordAmong sites)
+  pub flight : IfSome e.came.flight (IsRecordAmong sites)
 
 -- each record in the trails has one
-abbrev pub HaveSpellings : List (List Entry) → Type 0
-HaveSpellings trails = All (λ trail. All HasSpellings trail) trails
+abbrev pub HaveSpellings : ℕ → List (List Entry) → Type 0
+HaveSpellings sites trails = All (λ trail. All (HasSpellings sites) trail) trails
+
+-- the record has a spelling in the format
+abbrev pub IsSpelledIn : Format → Record → Type 0
+IsSpelledIn format rec = CanBeRecorded rec × FitsFormat format rec
+
+-- each record that came has one in the format in force at its place, where this one is in force before
+pub record AreSpelledIn (format : Format) (came : Came) : Type 0 where
+  pub kept : IfSome came.kept (IsSpelledIn format)
+  pub wrote : IfSome came.wrote (IsSpelledIn (behind came.kept format))
+  pub flight : IfSome came.flight (IsSpelledIn (format_after came format))
 
 -- what a client asked, as a word
 abbrev pub call_word : Result Request BadFrame → List ℕ
@@ -86,21 +102,10 @@ outcome_text Memory = codes "memory"
 outcome_text Down = codes "down"
 outcome_text Refused = codes "refused"
 
--- The format in which a record is told: the first, where that has a place for each number of its snapshot, as in each run of
--- at most eight sites.
-abbrev pub told_for : List ℕ → Format
-told_for start = if nat_le (length start) (most_in First) then First else Second
-
-abbrev pub told_in : Record → Format
-told_in (Own seq tx) = told_for tx.start
-told_in (Got site seq tx) = told_for tx.start
-told_in (SlowBegin slow tx) = told_for tx.start
-told_in rec = First
-
--- a record in hex, or a dash
-abbrev pub record_text : Option Record → List ℕ
-record_text None = codes "-"
-record_text (Some rec) = encode_lower (record_spelled (told_in rec) rec)
+-- a record in hex, in the format, or a dash
+abbrev pub record_text : Format → Option Record → List ℕ
+record_text format None = codes "-"
+record_text format (Some rec) = encode_lower (record_spelled format rec)
 
 -- what is put out: "<to>:<packet>" for each
 abbrev pub send_text : Send → List ℕ
@@ -115,18 +120,32 @@ happened_part (site, e) =
     codes "e " ++ decimal e.stamp ++ codes " " ++ decimal site.0 ++ codes " " ++ event_text e.event
     ++ codes " " ++ outcome_text e.came.outcome
 
--- " <kept> <wrote> <flight>"
-abbrev pub records_part : Came → List ℕ
-records_part came =
-    codes " " ++ record_text came.kept ++ codes " " ++ record_text came.wrote ++ codes " " ++ record_text came.flight
+-- " <kept> <wrote> <flight>", each in the format in force at its place
+abbrev pub records_part : Format → Came → List ℕ
+records_part format came =
+    codes " " ++ record_text format came.kept ++ codes " " ++ record_text (behind came.kept format) came.wrote
+    ++ codes " " ++ record_text (format_after came format) came.flight
 
 -- " <sends> <dropped>"
 abbrev pub sends_part : Came → List ℕ
 sends_part came = codes " " ++ sends_text came.sends ++ codes " " ++ decimal came.dropped ++ line_feed
 
-abbrev pub trace_line : Named → List ℕ
-trace_line (site, e) = happened_part (site, e) ++ records_part e.came ++ sends_part e.came
+abbrev pub trace_line : Format → Named → List ℕ
+trace_line format (site, e) = happened_part (site, e) ++ records_part format e.came ++ sends_part e.came
 
--- a line for each entry of the merge
-abbrev pub trace_text : List (List Entry) → List ℕ
-trace_text trails = flat_map trace_line (merge trails)
+-- the format in force at a site, of those in force at each
+abbrev pub format_of : List Format → SiteId → Format
+format_of formats site = slice_index_or formats site.0 First
+
+-- those in force behind an entry: at its own site another one may be
+abbrev pub formats_after : List Format → Named → List Format
+formats_after formats (site, e) = set formats site.0 (format_after e.came (format_of formats site))
+
+-- a line for each entry, where these formats are in force before the first
+abbrev pub trace_lines : List Format → List Named → List ℕ
+trace_lines formats [] = []
+trace_lines formats (n ∷ ns) = trace_line (format_of formats n.0) n ++ trace_lines (formats_after formats n) ns
+
+-- a line for each entry of the merge; the journals' headers name the formats in force at first
+abbrev pub trace_text : List Format → List (List Entry) → List ℕ
+trace_text headers trails = trace_lines headers (merge trails)

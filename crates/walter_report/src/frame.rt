@@ -1,10 +1,9 @@
 //! Bytes that are to become digits.
 ghost use Rattle.std.specs.Prelude.{◌≡◌, [], IfOk};
 ghost use Rattle.walter_base.specs.Sizes.{CanBeRecorded};
-ghost use Rattle.walter_record.specs.Spelling.{record_spelled};
+ghost use Rattle.walter_record.specs.Spelling.{record_spelled, FitsFormat};
 ghost use Rattle.walter_reply.specs.Replies.{FitsFrame};
 ghost use Rattle.walter_report.specs.Reports.{reply_frame};
-ghost use Rattle.walter_report.specs.Traces.{told_for, told_in};
 
 use std::alloc::Global;
 use std::marker::Model;
@@ -57,35 +56,13 @@ impl Frame {
         walter_reply::append(&mut self.bytes, reply);
     }
 
-    /// A record as a journal has it, in the place of what was written.
-    pub fn write_record(&mut self, stable: &Record)
-        requires { CanBeRecorded stable.now }
-        ensures { self.new ≡ record_spelled (told_in stable.now) stable.now }
+    /// A record as a journal has it in the format, in the place of what was written.
+    pub fn write_record(&mut self, stable: &Record, format: Format)
+        requires sizes { CanBeRecorded stable.now }
+        requires place { FitsFormat format stable.now }
+        ensures { self.new ≡ record_spelled format stable.now }
     {
-        let format = told_in(stable);
         self.bytes.clear();
         walter_record::append(&mut self.bytes, stable, format);
-    }
-}
-
-// The format in which a record is told.
-fn told_in(stable: &Record) -> Format
-    ensures { result ≡ told_in stable.now }
-{
-    match stable {
-        Record::Own(_, tx) | Record::Got(_, _, tx) | Record::SlowBegin(_, tx) => {
-            told_for(tx.start.vector().as_slice())
-        }
-        _ => Format::First,
-    }
-}
-
-fn told_for(start: &[u64]) -> Format
-    ensures { result ≡ told_for start.now }
-{
-    if start.len() <= 8 {
-        Format::First
-    } else {
-        Format::Second
     }
 }

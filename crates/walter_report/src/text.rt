@@ -1,5 +1,6 @@
 //! The report of a run.
-ghost use Rattle.std.specs.Prelude.{◌≡◌, ◌≤◌, true, length, flat_map, OnOk, IfErr};
+ghost use Rattle.std.specs.Prelude.{◌≡◌, ◌≤◌, true, length, flat_map, All, OnOk, IfOk, IfErr};
+ghost use Rattle.walter_base.specs.Sizes.{most_in};
 ghost use Rattle.walter_base.specs.Vectors.{most_sites};
 ghost use Rattle.walter_report.specs.Answered.{HaveEach};
 ghost use Rattle.walter_report.specs.Overviews.{TellEach};
@@ -20,38 +21,44 @@ use crate::sites::put_site_lines;
 use crate::told::overviews_of;
 use crate::traces::put_lines;
 use std::alloc::Global;
+use walter_base::{Format, Mem};
 use walter_scenario::Scenario;
 use walter_stream::{Failed, Sink};
 use walter_trail::{Trail, merge};
 
 /// Writes the report of a run, by its trails, one for each site, and where it is to be traced the trace behind it, which
-/// has a line for each entry. All memory is taken before the first byte is written, and the text is never held.
+/// has a line for each entry. The headers are the formats that the sites' journals began with, one for each site. All
+/// memory is taken before the first byte is written, and the text is never held.
 pub fn write_report<K: Sink>(
     alloc: Global,
     scenario: &Scenario,
     traced: bool,
+    headers: &[Format],
     trails: &[Trail],
     sink: &mut K,
 ) -> Result<(), WriteFault>
     requires few { length trails.now ≤ most_sites }
+    requires headers { traced ≡ true → (length headers.now ≡ length trails.now)
+        × All (λ (f : Format). length trails.now ≤ most_in f) headers.now }
     requires frames { HaveFrames trails.now }
-    requires records { traced ≡ true → HaveSpellings trails.now }
+    requires records { traced ≡ true → HaveSpellings (length trails.now) trails.now }
     ensures ok { OnOk result
-        (Appends (K.holds sink.old) (K.holds sink.new) (text_of traced scenario.now trails.now)) }
+        (Appends (K.holds sink.old) (K.holds sink.new) (text_of traced scenario.now headers.now trails.now)) }
     ensures faultless { OnOk result (K.faults sink.new ≡ K.faults sink.old) }
-    ensures fault { IfErr result (IsUnwritten (text_of traced scenario.now trails.now)
+    ensures fault { IfErr result (IsUnwritten (text_of traced scenario.now headers.now trails.now)
         (K.holds sink.old) (K.holds sink.new) (K.faults sink.old) (K.faults sink.new)) }
 {
     let clients = scenario.clients.as_slice().len();
     let answered = replies_of(alloc, clients, trails)?;
     let overviews = overviews_of(alloc, scenario.catalog.sites, trails)?;
     let merged = merge(alloc, shown(traced, trails))?;
+    let mut formats = shown_headers(alloc, traced, headers)?;
     let mut frame = Frame::new(alloc)?;
     let mut page = Page::new(alloc)?;
     put_report(
         &mut page, sink, &mut frame, scenario, trails, &answered, &overviews,
     )?;
-    put_lines(&mut page, sink, &mut frame, merged.as_slice())?;
+    put_lines(&mut page, sink, &mut frame, &mut formats, merged.as_slice())?;
     page.flush(sink)?;
     Ok(())
 }
@@ -61,6 +68,17 @@ fn shown(traced: bool, trails: &[Trail]) -> &[Trail]
     ensures { result.now ≡ shown_of traced trails.now }
 {
     if traced { trails } else { &[] }
+}
+
+// A copy of the headers of the sites whose entries are to be told one by one.
+fn shown_headers(alloc: Global, traced: bool, headers: &[Format]) -> Mem<Vec<Format>>
+    ensures { IfOk result (λ formats. formats.items ≡ shown_of traced headers.now) }
+{
+    if traced {
+        Ok(headers.to_vec(alloc)?)
+    } else {
+        Ok(Vec::new(alloc))
+    }
 }
 
 fn put_report<K: Sink>(

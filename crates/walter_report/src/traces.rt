@@ -1,50 +1,78 @@
 //! The trace: a line for each entry.
-ghost use Rattle.std.specs.Prelude.{◌≡◌, ◌++◌, ◌∷◌, [], flat_map, codes, All, IfSome};
+ghost use Rattle.std.specs.Prelude.{◌≡◌, ◌<◌, ◌≤◌, ◌++◌, ◌∷◌, [], length, codes, All, IfSome};
 ghost use Rattle.walter_reply.specs.Replies.{FitsFrame};
 ghost use Rattle.walter_report.specs.Lists.{list_behind};
 ghost use Rattle.walter_report.specs.Pages.{Puts};
 ghost use Rattle.walter_report.specs.Reports.{reply_in};
-ghost use Rattle.walter_base.specs.Sizes.{CanBeRecorded};
-ghost use Rattle.walter_report.specs.Traces.{HasSpellings, call_word, packet_word, input_text, event_text, outcome_text, record_text, send_text, sends_text, happened_part, records_part, sends_part, trace_line};
+ghost use Rattle.walter_base.specs.Sizes.{most_in};
+ghost use Rattle.walter_rules.specs.Learning.{format_after as behind};
+ghost use Rattle.walter_report.specs.Traces.{HasSpellings, IsSpelledIn, AreSpelledIn, call_word, packet_word, input_text, event_text, outcome_text, record_text, send_text, sends_text, happened_part, records_part, sends_part, trace_line, trace_lines, format_after};
 
 use crate::frame::Frame;
 use crate::lists::comma_behind;
 use crate::page::Page;
 use crate::parts::{Part, put_parts};
-use walter_base::{Call, MaybeRecord, Packet, Request, SiteId};
+use walter_base::{Call, Format, MaybeRecord, Packet, Record, Request, SiteId};
 use walter_rules::{Came, Entry, Event, Input, Outcome};
 use walter_stream::{Failed, Sink};
 
-// Puts a line for each of the entries.
+// Puts a line for each of the entries. The formats are those in force at each site, at first before all entries; each
+// line moves that of its site on.
 pub(crate) fn put_lines<K: Sink>(
     page: &mut Page,
     sink: &mut K,
     frame: &mut Frame,
+    formats: &mut [Format],
     entries: &[(SiteId, Entry)],
 ) -> Result<(), Failed>
+    requires sites { All (λ n. n.0.0 < length formats.old) entries.now }
+    requires places { All (λ (f : Format). length formats.old ≤ most_in f) formats.old }
     requires frames { All (λ n. All FitsFrame (reply_in n.1.came.outcome)) entries.now }
-    requires records { All (λ n. HasSpellings n.1) entries.now }
-    ensures { Puts K.holds K.faults sink.old sink.new page.old page.new (flat_map trace_line entries.now) result }
+    requires records { All (λ n. HasSpellings (length formats.old) n.1) entries.now }
+    ensures { Puts K.holds K.faults sink.old sink.new page.old page.new
+        (trace_lines formats.old entries.now) result }
 {
     for (site, entry) in entries {
-        put_line(page, sink, frame, *site, entry)?;
+        let place = usize::from(site.0);
+        let format = formats[place];
+        put_line(page, sink, frame, format, *site, entry)?;
+        formats[place] = format_after(&entry.came, format);
     }
     Ok(())
+}
+
+// The format in force behind what came.
+fn format_after(came: &Came, format: Format) -> Format
+    ensures { result ≡ format_after came.now format }
+{
+    format_behind(&came.wrote, format_behind(&came.kept, format))
+}
+
+// The format in force behind a record, where there is one.
+fn format_behind(found: &MaybeRecord, format: Format) -> Format
+    ensures { result ≡ behind found.now format }
+{
+    match found.as_ref() {
+        Some(Record::Format) => Format::Second,
+        _ => format,
+    }
 }
 
 fn put_line<K: Sink>(
     page: &mut Page,
     sink: &mut K,
     frame: &mut Frame,
+    format: Format,
     site: SiteId,
     entry: &Entry,
 ) -> Result<(), Failed>
     requires frames { All FitsFrame (reply_in entry.now.came.outcome) }
-    requires records { HasSpellings entry.now }
-    ensures { Puts K.holds K.faults sink.old sink.new page.old page.new (trace_line (site, entry.now)) result }
+    requires records { AreSpelledIn format entry.now.came }
+    ensures { Puts K.holds K.faults sink.old sink.new page.old page.new
+        (trace_line format (site, entry.now)) result }
 {
     put_happened(page, sink, frame, site, entry)?;
-    put_records(page, sink, frame, entry)?;
+    put_records(page, sink, frame, format, &entry.came)?;
     put_sends(page, sink, &entry.came)
 }
 
@@ -78,30 +106,32 @@ fn put_records<K: Sink>(
     page: &mut Page,
     sink: &mut K,
     frame: &mut Frame,
-    entry: &Entry,
+    format: Format,
+    came: &Came,
 ) -> Result<(), Failed>
-    requires { HasSpellings entry.now }
-    ensures { Puts K.holds K.faults sink.old sink.new page.old page.new (records_part entry.now.came) result }
+    requires { AreSpelledIn format came.now }
+    ensures { Puts K.holds K.faults sink.old sink.new page.old page.new (records_part format came.now) result }
 {
-    put_record(page, sink, frame, &entry.came.kept)?;
-    put_record(page, sink, frame, &entry.came.wrote)?;
-    put_record(page, sink, frame, &entry.came.flight)
+    put_record(page, sink, frame, format, &came.kept)?;
+    put_record(page, sink, frame, format_behind(&came.kept, format), &came.wrote)?;
+    put_record(page, sink, frame, format_after(came, format), &came.flight)
 }
 
-// Puts the record in hex, or a dash.
+// Puts the record in hex, in the format, or a dash.
 fn put_record<K: Sink>(
     page: &mut Page,
     sink: &mut K,
     frame: &mut Frame,
+    format: Format,
     found: &MaybeRecord,
 ) -> Result<(), Failed>
-    requires { IfSome found.now CanBeRecorded }
+    requires { IfSome found.now (IsSpelledIn format) }
     ensures { Puts K.holds K.faults sink.old sink.new page.old page.new
-        (codes " " ++ record_text found.now) result }
+        (codes " " ++ record_text format found.now) result }
 {
     match found.as_ref() {
         Some(stable) => {
-            frame.write_record(stable);
+            frame.write_record(stable, format);
             put_parts(page, sink, &[Part::Word(" "), Part::Hex(frame.as_slice())])
         }
         None => page.put(sink, b" -"),
