@@ -1,5 +1,5 @@
 -- What holds of the parts of a machine has one proof at most.
-use Rattle.std.proofs.Common.{◌≡◌, ◌<◌, inl, inr, ap, arith}
+use Rattle.std.proofs.Common.{◌≡◌, ◌<◌, ℕ, inl, inr, ap, arith}
 use Rattle.std.specs.Coded.{codes}
 use Rattle.std.proofs.Props.{props as usual}
 use Rattle.walter_base.specs.declared.message.Record.{Record}
