@@ -124,7 +124,7 @@ kind_allowed catalog i S event wrote outcome (boots down) = refl
 kind_allowed catalog i S event wrote outcome kind = refl
 
 -- the record says that the second format begins
-says_format : Option Record → Bool
+abbrev says_format : Option Record → Bool
 says_format None = false
 says_format (Some FormatRecord) = true
 says_format (Some rec) = false
@@ -401,7 +401,7 @@ module _ {D : Type 0} {g : Ghosts D} (size_is : SizeIs g) (catalog : Catalog) (l
         let boot : S.up ≡ false → IsBoot rec =
         λ down. subst (λ (w : Option Record). AnyBoot w) ruled (brings_boot header catalog i S event down) in
         let needs : body_need body ≡ need_of (format_at header S.records) rec =
-        ap body_need is_there ∙ need_is (format_at header S.records) rec (fits_format _ catalog.sites rec has_there) in
+        ap body_need is_there ∙ need_is (format_at header S.records) rec (fits_format _ catalog.sites rec has_there.spelling) in
         record {
           machine = standing;
           spellings = lands_here flight (subst (λ (w : Option Record). IfSome w Has) (sym wrote) has_there);

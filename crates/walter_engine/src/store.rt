@@ -1,6 +1,7 @@
 //! Where the records of a site lie: in the book of one that is up, or on the bare disk of one that is down.
 ghost use Rattle.std.specs.Prelude.{◌≡◌, ◌<◌, ◌++◌, ◌∷◌, [], true, false, not, Some, None, is_some, option_map, IfSome, OnOk, OnErr};
-ghost use Rattle.walter_engine.specs.Stores.{book_if, disk_if, disk_under, IsStored};
+ghost use Rattle.walter_base.specs.declared.format.Format.{Format as Header};
+ghost use Rattle.walter_engine.specs.Stores.{book_if, disk_if, disk_under, header_under, IsStored};
 ghost use Rattle.walter_rules.specs.Layouts.{Layout};
 ghost use Rattle.walter_rules.specs.Standing.{Standing};
 
@@ -59,6 +60,7 @@ pub(crate) fn arm<D: Disk>(
         IfSome (disk_under book.new disk.new) (λ new. D.known new ≡ D.known old))) }
     ensures device { IfSome (disk_under book.old disk.old) (λ old.
         IfSome (disk_under book.new disk.new) (λ new. D.device_calls new ≡ D.device_calls old)) }
+    ensures header { (asked : Header) → header_under book.new asked ≡ header_under book.old asked }
     ensures open { is_some book.new ≡ is_some book.old }
     ensures bare { is_some disk.new ≡ is_some disk.old }
     ensures stored { (layout : Layout) (S : Standing) → IsStored layout S book.old disk.old

@@ -2,6 +2,7 @@ use Rattle.std.proofs.Common.{◌≡◌, ◌≤◌, ◌<◌, ◌+◌, ◌^◌, [
 use Rattle.std.specs.Prelude.{IfSome, IsSome}
 use Rattle.walter_base.specs.declared.catalog.Catalog.{Catalog}
 use Rattle.walter_disk.specs.Images.{LeavesOnly}
+use Rattle.walter_base.specs.declared.format.Format.{Format}
 use Rattle.walter_base.specs.Sizes.{most_in}
 use Rattle.walter_engine.specs.Contents.{AreSpelled, headed, MayHaveNext}
 use Rattle.walter_engine.specs.Stores.{book_if, disk_if, IsStored}
@@ -121,7 +122,7 @@ returns g c =
     let header = (shape_of c.in-Ok.loaded.0).header in
     let shape_is = load.shape ∙ ap (λ n. shape_by c.args.self.now.capacity n header) c.sites-sites.ensures in
     let places = subst (λ n. n ≤ most_in header) c.sites-sites.ensures load.places in
-    let one_content = λ h other bytes a b. law.content shape.capacity shape.sites h other bytes a b low in
+    let one_content = λ (h other : Format) (bytes : List ℕ) (a b : List (List ℕ)). law.content shape.capacity shape.sites h other bytes a b low in
     let same_layout : layout_for c.args.self.now.areas c.args.self.now.capacity (catalog_in c.raise-refused.new.machine).sites c.args.self.now.format ≡ layout =
     ap (λ (x : Catalog). layout_for c.args.self.now.areas c.args.self.now.capacity x.sites c.args.self.now.format) (c.raise-refused.ensures.same.catalog ∙ c.settle-kept.ensures.same.catalog) in
     let bodies = map (λ body. body.items) c.as_slice-bodies.result.now in
