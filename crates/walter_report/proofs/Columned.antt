@@ -1,5 +1,5 @@
 -- How many replies are in each column, counted in two goes.
-use Rattle.std.proofs.Common.{◌≡◌, ℕ, List, [], ◌++◌, sym, ap, ◌∙◌, append_assoc}
+use Rattle.std.proofs.Common.{◌≡◌, ℕ, List, ◌++◌, sym, ap, ◌∙◌, append_assoc}
 use Rattle.walter_base.specs.declared.message.Reply.{Reply}
 use Rattle.walter_report.specs.Summaries.{in_columns, CountMore}
 

@@ -8,8 +8,8 @@ pub mod Lined
 pub mod Logged
 pub mod Merged
 pub mod Shown
+pub mod Spelled
 pub mod Stands
 pub mod Tallied
 pub mod Telling
 pub mod Traced
-pub mod Spelled

@@ -1,12 +1,10 @@
 -- Each record of an entry has a spelling in the format in force at its place.
-use Rattle.std.proofs.Common.{◌≡◌, ◌≤◌, ℕ, length, Option, Some, None, IfSome, sym, subst, arith}
+use Rattle.std.proofs.Common.{◌≤◌, ℕ, Option, Some, None, IfSome, sym, subst, arith}
 use Rattle.walter_base.specs.declared.format.Format.{Format}
 use Rattle.walter_base.specs.declared.format.Format.TheVariants.{First, Second}
 use Rattle.walter_base.specs.declared.message.Record.{Record}
 use Rattle.walter_base.specs.declared.message.Record.TheVariants.{Boot, Own, Got, Seen, Prepared, Released, SlowBegin, SlowEnd, Marks, Format as FormatRecord}
-use Rattle.walter_base.specs.Sizes.{CanBeRecorded, most_in}
-use Rattle.walter_base.specs.Vectors.{most_sites}
-use Rattle.walter_record.specs.Spelling.{FitsFormat}
+use Rattle.walter_base.specs.Sizes.{most_in}
 use Rattle.walter_rules.specs.declared.entry.Came.{Came}
 use Rattle.walter_rules.specs.declared.entry.Entry.{Entry}
 use Rattle.walter_rules.specs.Learning.{format_behind, format_after as behind}

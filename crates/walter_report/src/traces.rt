@@ -33,7 +33,7 @@ pub(crate) fn put_lines<K: Sink>(
         (trace_lines formats.old entries.now) result }
 {
     for (site, entry) in entries {
-        let place = usize::from(site.0);
+        let place = site.0 as usize;
         let format = formats[place];
         put_line(page, sink, frame, format, *site, entry)?;
         formats[place] = format_after(&entry.came, format);
@@ -113,7 +113,13 @@ fn put_records<K: Sink>(
     ensures { Puts K.holds K.faults sink.old sink.new page.old page.new (records_part format came.now) result }
 {
     put_record(page, sink, frame, format, &came.kept)?;
-    put_record(page, sink, frame, format_behind(&came.kept, format), &came.wrote)?;
+    put_record(
+        page,
+        sink,
+        frame,
+        format_behind(&came.kept, format),
+        &came.wrote,
+    )?;
     put_record(page, sink, frame, format_after(came, format), &came.flight)
 }
 

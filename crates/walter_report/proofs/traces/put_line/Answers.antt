@@ -6,7 +6,7 @@ pub returns-in_err-put_happened : goal.returns-in_err-put_happened
 returns-in_err-put_happened g c =
     let came = c.args.entry.now.came in
     cuts c.put_happened.new.page c.from_residual.result c.from_residual.ensures.0
-    (cut_more (sends_part came) (cut_more (records_part came) c.in_err-put_happened.ensures))
+    (cut_more (sends_part came) (cut_more (records_part c.args.format came) c.in_err-put_happened.ensures))
 
 pub returns-in_err-put_records : goal.returns-in_err-put_records
 returns-in_err-put_records g c =
