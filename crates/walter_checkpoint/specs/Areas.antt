@@ -59,8 +59,8 @@ HasContent shape bytes bodies = journal.HasContent shape.header bytes bodies ⊎
 abbrev pub IsBeforeOrBehind : Shape → List (List ℕ) → List ℕ → List ℕ → Type 0
 IsBeforeOrBehind shape bodies body image = HasContent shape image bodies ⊎ HasContent shape image (bodies ++ body ∷ [])
 
--- they begin as no book does whose format has places for so many sites, or as one of two areas where the capacity is too
--- small for these
+-- they begin as no book does whose format has places for so many sites, or as one of two areas where the capacity is
+-- too small for these
 abbrev pub IsForeign : (capacity sites : ℕ) → List ℕ → Type 0
 IsForeign capacity sites bytes =
     (length bytes < 9)

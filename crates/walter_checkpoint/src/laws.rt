@@ -19,9 +19,9 @@ pub fn packs_are_shorter()
 /// Bytes are a book of one list of bodies behind the header of one format, or foreign, or damaged at one place with one
 /// length, where the capacity is below 2^64, as the length of a pack is. A law of the definitions, which does nothing.
 pub fn books_differ()
-    ensures content { (capacity sites : ℕ) (header other : Format) (bytes : List ℕ) (a b : List (List ℕ)) → capacity < 2 ^ 64
-        → HasContent (shape_by capacity sites header) bytes a → HasContent (shape_by capacity sites other) bytes b
-        → (header ≡ other) × (a ≡ b) }
+    ensures content { (capacity sites : ℕ) (header other : Format) (bytes : List ℕ) (a b : List (List ℕ))
+        → capacity < 2 ^ 64 → HasContent (shape_by capacity sites header) bytes a
+        → HasContent (shape_by capacity sites other) bytes b → (header ≡ other) × (a ≡ b) }
     ensures content_or_foreign { (shape : Shape) (bytes : List ℕ) (bodies : List (List ℕ))
         → shape.sites ≤ most_in shape.header → HasContent shape bytes bodies
         → IsForeign shape.capacity shape.sites bytes → ⊥ }
@@ -35,8 +35,8 @@ pub fn books_differ()
         → (at ≡ at') × (claimed ≡ claimed') }
 {}
 
-/// With the header of one area the content is a journal's, and with that of two areas the live one's; and the header tells
-/// the format. A law of the definitions, which does nothing.
+/// With the header of one area the content is a journal's, and with that of two areas the live one's; and the header
+/// tells the format. A law of the definitions, which does nothing.
 pub fn headers_tell()
     ensures one { (shape : Shape) (format : Format) (bytes : List ℕ) (bodies : List (List ℕ))
         → take 8 bytes ≡ header_in format → HasContent shape bytes bodies

@@ -18,8 +18,9 @@ use walter_base::Format;
 use walter_disk::{Disk, NoMemory};
 use walter_journal::{Bodies, Journal, JournalFault, begin, fill, settle_and_read};
 
-/// Loads the book of a disk, and makes an empty one on a disk of no bytes, of so many areas and of this format. A disk that
-/// has bytes is settled first, whatever happened to it, and is read as its header says. At a fault the disk comes back.
+/// Loads the book of a disk, and makes an empty one on a disk of no bytes, of so many areas and of this format. A disk
+/// that has bytes is settled first, whatever happened to it, and is read as its header says. At a fault the disk comes
+/// back.
 pub fn load<D: Disk>(
     alloc: Global,
     mut disk: D,
@@ -38,7 +39,8 @@ pub fn load<D: Disk>(
         → IfOk result (λ it. (areas_of it.0.live ≡ areas) × ((shape_of it.0).header ≡ format)) }
     ensures image { 0 < (D.known disk).size
         → OnOk result (IsImage (D.known (disk_behind result)).reads (D.may_leave disk)) }
-    // The header of a disk that has bytes names the format.
+
+    // The header of a disk that has bytes names the format, which has places for the sites.
     ensures shape { IfOk result (λ it. shape_of it.0 ≡ shape_by capacity sites (shape_of it.0).header) }
     ensures places { IfOk result (λ it. sites ≤ most_in (shape_of it.0).header) }
     ensures goes_on { IfOk result (λ it. GoesOnBehind it.0 it.1) }

@@ -83,8 +83,8 @@ fn format_of(bytes: &[u8]) -> Option<Format>
     None
 }
 
-/// The bodies that the bytes are a journal of, the place behind the gate that ends them, and the format that the header
-/// names.
+/// The bodies that the bytes are a journal of, the place behind the gate that ends them, and the format that the
+/// header names.
 pub fn bodies_of(alloc: Global, bytes: &[u8]) -> Result<(Bodies, usize, Format), JournalFault>
     ensures ok { IfOk result (λ found.
         HasContent found.2 bytes.now found.0 × (found.1 ≡ end_behind found.0)) }
@@ -97,8 +97,8 @@ pub fn bodies_of(alloc: Global, bytes: &[u8]) -> Result<(Bodies, usize, Format),
     Ok((bodies, end, format))
 }
 
-/// Bytes are a journal of one list of bodies behind the header of one format, or foreign, or damaged at one place with one
-/// length. A law of the definitions, which does nothing.
+/// Bytes are a journal of one list of bodies behind the header of one format, or foreign, or damaged at one place with
+/// one length. A law of the definitions, which does nothing.
 pub fn layouts_differ()
     ensures content { (bytes : List ℕ) (format other : Format) (a b : List (List ℕ))
         → HasContent format bytes a → HasContent other bytes b → (format ≡ other) × (a ≡ b) }

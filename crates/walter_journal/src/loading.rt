@@ -25,7 +25,7 @@ fn empty_in(format: Format) -> [u8; 9]
 }
 
 /// Loads the journal of a disk, and makes an empty one of this format on a disk of no bytes. A disk that has bytes is
-/// settled first, whatever happened to it. Beside the bodies the format comes that the header names. At a fault the disk
+/// settled first, whatever happened to it. With the bodies comes the format that the header names. At a fault the disk
 /// comes back.
 pub fn load<D: Disk>(
     alloc: Global,

@@ -38,8 +38,8 @@ fn a_new_book_has_the_header_of_its_format(rt: HostRuntime) -> Result<(), Fail> 
     Ok(())
 }
 
-/// How many areas the bytes have as a book for so many sites, and the format; or why they aren't loaded. A new book would
-/// be of the second format, of two areas.
+/// How many areas the bytes have as a book for so many sites, and the format; or why they aren't loaded. A new book has
+/// two areas, and the second format.
 fn found(
     alloc: Global,
     bytes: &[u8],
