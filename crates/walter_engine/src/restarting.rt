@@ -70,8 +70,13 @@ pub(crate) fn raise<D: Disk>(
     ensures same { IsSameSite machine.old machine.new }
 {
     let header = book.format();
-    let (mut ready, format) = match ready_over(alloc, machine.catalog(), machine.id(), bodies, header)
-    {
+    let (mut ready, format) = match ready_over(
+        alloc,
+        machine.catalog(),
+        machine.id(),
+        bodies,
+        header,
+    ) {
         Ok(ready) => ready,
         Err(why) => {
             machine.rest(hindrance(why), came);

@@ -36,6 +36,7 @@ use Rattle.walter_machine.proofs.Sizes.{sized_only}
 use Rattle.walter_machine.specs.Comings.{is_faulty, IsFaulty, IsSized}
 use Rattle.walter_machine.specs.Machines.{AreFound}
 use Rattle.walter_packet.specs.Framed.{frame_of}
+use Rattle.walter_rules.specs.Records.{IsRecordAmong}
 use Rattle.walter_rules.specs.Sending.{Send}
 use Rattle.walter_rules.specs.Standing.{settled}
 
@@ -179,7 +180,7 @@ returns g c =
             why = has_cause _ (catalog_in c.settle-kept.new.self) (site_in c.settle-kept.new.self) (left_over (layout_of c.in-Ok.loaded.0) bodies) (map (λ body. body.items) c.as_slice-bodies.result.now) c.raise-refused.new.came.wrote c.raise-refused.result c.raise-refused.new.came.outcome
                 c.raise-refused.ensures.over;
             sized = subst (λ (x : Catalog). IsSized x.sites (record c.raise-refused.new.came { kept = c.settle-kept.result })) c.settle-kept.ensures.same.catalog
-                (record { outcome = c.raise-refused.ensures.sized.outcome; kept = c.settle-kept.ensures.sized; wrote = c.raise-refused.ensures.sized.wrote; flight = c.raise-refused.ensures.sized.flight; sends = c.raise-refused.ensures.sized.sends });
+                (record { outcome = c.raise-refused.ensures.sized.outcome; kept = subst (λ (x : Catalog). IfSome c.settle-kept.result (IsRecordAmong x.sites)) (sym c.settle-kept.ensures.same.catalog) c.settle-kept.ensures.sized; wrote = c.raise-refused.ensures.sized.wrote; flight = c.raise-refused.ensures.sized.flight; sends = c.raise-refused.ensures.sized.sends });
             framed =
                 let none : map (λ (s : Send). frame_of (catalog_in c.args.self.now.machine).sites s.1) c.raise-refused.new.came.sends ≡ [] = ap (λ (l : List Send). map (λ (s : Send). frame_of (catalog_in c.args.self.now.machine).sites s.1) l) c.raise-refused.ensures.none_sent in
                 cc;
