@@ -96,7 +96,9 @@ impl<D: Disk + Drop, S: Source + Drop, K: Sink + Drop> Cell<D, S, K> {
             disk result }
         ensures room { IfOk result (λ cell. room ≤ places_in cell.node) }
     {
-        let node = Node::begin(alloc, disk, catalog, site, capacity, areas, format, room, outs)?;
+        let node = Node::begin(
+            alloc, disk, catalog, site, capacity, areas, format, room, outs,
+        )?;
         Ok(Cell { node, ins, lines })
     }
 
