@@ -1,8 +1,9 @@
 -- What has arrived at each cell where it is a beginning of what was put, and what the closing of a bench gives.
-use Rattle.std.proofs.Common.{◌≡◌, ◌≢◌, ℕ, ◌<◌, List, [], ◌∷◌, ◌++◌, length, map, reverse, slice_get, take, ap, sym, ◌∙◌, subst, Some}
+use Rattle.std.proofs.Common.{◌≡◌, ◌≢◌, ℕ, ◌<◌, List, [], ◌∷◌, ◌++◌, length, map, reverse, get_or, slice_get, take, ap, sym, ◌∙◌, subst, Some}
 use Rattle.std.specs.Prelude.{All}
 use Rattle.std.proofs.lemmas.List.{length-map, map-append, take_at}
-use Rattle.std.proofs.lemmas.List.Elements.{All-contains, All-weaker}
+use Rattle.std.proofs.lemmas.List.Elements.{All-contains, All-from_get_or, All-nil, All-weaker}
+use Rattle.std.proofs.lemmas.Option.{slice_get-get_or}
 use mathlib.Core.List.{IsPrefix}
 use Rattle.walter_base.specs.declared.names.SiteId.{SiteId}
 use Rattle.walter_cell.specs.Cells.{CellValue, IsCell}
@@ -57,6 +58,11 @@ module _ {D : Type 0} where
       → AtEach cells (λ i c. IsSound g c.node × IsCell c)
   sound_each g cells all i c at =
       All-contains (λ (c : CellValue D). IsSound g c.node × IsCell c) cells c all (contains_at cells c i at)
+
+  pub all_each : (P : CellValue D → Type 0) → (cells : List (CellValue D)) → AtEach cells (λ i c. P c) → All P cells
+  all_each P [] each = All-nil P
+  all_each P (c ∷ cells) each =
+      All-from_get_or P (c ∷ cells) c (λ i below. each i (get_or (c ∷ cells) i c) (slice_get-get_or (c ∷ cells) i c below))
 
   -- ---- the trails are linked
 
