@@ -126,7 +126,7 @@ def sizes(site):
     """With how many bytes of its journal, or of an area of it, a site's records just have place, record by record."""
     found, size, packed = [], LEAST_SIZE, LEAST_SIZE
     for entry in site.entries:
-        kept, wrote = (record and record_of(record) for record in (entry.kept, entry.wrote))
+        kept, wrote = (record and record_of(record, entry.form) for record in (entry.kept, entry.wrote))
         if kept is not None:
             size, packed = size + 5 + len(kept), packed + len(journals.entry_of(kept, site.count))
         if site.areas == 2 and entry.event == "restart" and entry.outcome != "passed":

@@ -445,7 +445,7 @@ class Key(unittest.TestCase):
                      {"areas": 3, "link": 0}):
             self.assertEqual(self.wrong(**more), "the areas: wants 1 or 2, and 2 only where the capacity is at least 47", more)
         self.assertEqual(self.wrong(areas=2, capacity=18), readings.TEXTS["capacity"])
-        self.assertTrue(readings.TEXTS["keys"].endswith(" takes capacity, areas, room, link, ticks, threads and arms besides"))
+        self.assertTrue(readings.TEXTS["keys"].endswith(" takes capacity, areas, room, format, link, ticks, threads and arms besides"))
         self.assertEqual(self.wrong(areas=2, link=0), readings.TEXTS["link"])
 
 
