@@ -6,12 +6,16 @@ import random
 import unittest
 from collections import Counter
 
-from played import TOP, file_text
+from played import TOP, by_model, file_text
 import disks
 import journals
 import model
+import pictures
 import readings
+import reports
+import runs
 import scripts
+import words
 from spelled import *
 
 FIRST_RUN = json.loads(file_text(os.path.join(TOP, "examples", "first_run.json")))
@@ -228,6 +232,43 @@ class Scripts(unittest.TestCase):
             with self.assertRaises(scripts.Wrong) as wrong:
                 scripts.read(lines)
             self.assertTrue(str(wrong.exception).startswith(told), wrong.exception)
+
+
+class Words(unittest.TestCase):
+    """What the tools read of the trace of a run, whose records are in either format."""
+
+    SCRIPT = ("sites 2 tolerated 0\ncontainer 1 regular at 0\nclient ann at 0\n"
+              'ann: start\nann: write 1:1 "x"\nann: commit\nupgrade 0\nupgrade 0\n'
+              'ann: start\nann: write 1:1 "y"\nann: commit\nsettle\nstop 0\nupgrade 0\n')
+
+    def run_of(self, script):
+        text = json.dumps(scripts.read(script))
+        return runs.Run(runs.Scenario(script), reports.read(by_model(text).text()))
+
+    def test_an_upgrade_is_told(self):
+        run = self.run_of(self.SCRIPT)
+        told = [words.moment_line(run.scenario, step.moment) for step in run.steps if step.made[0] == "upgrade"]
+        self.assertEqual(told, ["upgrade 0 -> site 0 journals in the second format from now on",
+                                "upgrade 0 -> site 0 journals in the second format already",
+                                "upgrade 0 -> site 0 is down"])
+        records = [words.whole_record(moment.entry.wrote) for moment in run.moments if moment.site == 0 and moment.entry.wrote]
+        self.assertEqual(records[1:4], ['Own 0@1 of 0.1.1, with the snapshot 0,0 (write 1:1 "x")', "Format 2",
+                                        'Own 0@2 of 0.1.2, with the snapshot 1,0 (write 1:1 "y")'])
+        self.assertIn("Format: the records behind it are in the second format", pictures.Picture(run).svg())
+
+    def test_up_to_sixteen_sites_are_read(self):
+        run = self.run_of(self.SCRIPT.replace("sites 2", "sites 16"))
+        self.assertEqual([step.moment.entry.outcome[0] for step in run.steps if step.made[0] == "upgrade"],
+                         ["passed", "passed", "down"])
+        self.assertEqual(max(moment.site for moment in run.moments), 15)
+
+    def test_in_which_format_a_record_is(self):
+        tx = model.Tx((0, 1, 1), 0, (3, 4), HELLO)
+        first, second = (reports.record_of(record_of((OWN, 1, tx), form), 2) for form in (1, 2))
+        self.assertEqual((first, first.transaction.snapshot), (second, (3, 4)))
+        for body in record_of((OWN, 1, tx._replace(start=(3, 4, 5))), 2), b"\x0a\1", b"\x0a", b"\x0a\2\0", b"\x0b":
+            with self.assertRaises((ValueError, struct.error)):
+                reports.record_of(body, 2)
 
 
 if __name__ == "__main__":
