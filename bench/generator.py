@@ -8,7 +8,8 @@ several, in the kinds of `SEVERAL`. All but those of one site and those at limit
 which tells which packets there are: so most deliveries find one, in order or not, again, late or never. In three of the kinds
 sites are pumped too, by a link of any rates, and so they are in some of one site. Most have journals of two areas, with about
 as many bytes for each as a journal of one area would have; of some the capacity is one at which a record just fits, or just
-doesn't. Arms are aimed at restarts too, at the calls of their loads, their packs and their Boots.
+doesn't. Arms are aimed at restarts too, at the calls of their loads, their packs and their Boots. Journals begin in either
+format, and in most some sites are upgraded, amid faults of their disks too.
 """
 
 import random
@@ -604,6 +605,20 @@ def room_of(seed):
     return {} if room is None else {"room": room}
 
 
+def with_formats(seed, made, faults):
+    """The scenario with journals that begin in either format, and with sites that are upgraded, amid faults of their disks where
+    these are asked for. It is drawn apart too, but that a journal may be shorter or longer then."""
+    rng, sites, steps = random.Random(f"format {seed}"), made["sites"], list(made["steps"])
+    form = rng.choice([None, None, 1, 1, 2])
+    for _ in range(rng.choice([0, 0, 1, 2, sites])):
+        site, at = rng.randrange(sites), rng.randint(0, len(steps))
+        steps[at:at] = [["upgrade", site]]
+        if faults and rng.random() < 0.3:
+            steps[at + 1 : at + 1] = [["restart", site]] * rng.randint(0, 2)
+            steps[at:at] = [["arm", site, rng.randint(1, 4), rng.choice(CHOICES)]]
+    return {**made, **({} if form is None else {"format": form}), "steps": steps}
+
+
 # The kinds, by seed
 
 AT_LIMIT = [many_open, many_updates, many_bytes, many_ids, long_value, long_frame, full_lane, full_window, many_ticks]
@@ -621,8 +636,9 @@ def kind_of(seed):
     return BY_SEED[seed % len(BY_SEED)]
 
 
-def scenario(seed, areas=True, room=True):
-    """The scenario of a seed; where no areas are asked for none has the key `areas`, and so of `room`."""
+def scenario(seed, areas=True, room=True, formats=True):
+    """The scenario of a seed; where no areas are asked for none has the key `areas`, and so of `room`; where no formats are, none
+    has the key `format` or a step that upgrades a site."""
     rng, kind = random.Random(seed), kind_of(seed)
     if kind in FOLDED:
         made = folded(rng, kind, areas)
@@ -631,5 +647,6 @@ def scenario(seed, areas=True, room=True):
         made.update(areas_of(rng, made) if areas else {})
     else:
         made = several(rng, kind, areas)
+    made = with_formats(seed, made, kind is not None) if formats else made
     made = fitted(rng, made) if kind and rng.random() < 0.25 else made
     return {**made, **(room_of(seed) if room else {})}
