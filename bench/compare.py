@@ -3,9 +3,9 @@
 
 They are those of generator.py: of one site and of several, over journals of one area and of two, some by a link, one of
 eleven with transactions that stay open while rows may be folded, one of fourteen made to come to a limit; with --several those
-of two to eight sites alone, as many as are asked for. Where the program refuses the key `areas`, and with --one-area, none has
-it; nor `room` where the program refuses that, nor `format` or an upgrade where it refuses `format`. Says how often each reply, reason of a refusal, outcome, record and packet was
-met, what the pumps did and the link chose, what restarts did with areas, what folds would have met, and each limit, with a
+of two sites and more alone, as many as are asked for. Where the program refuses the key `areas`, and with --one-area, none has
+it; nor `room` where the program refuses that, nor `format`, an upgrade or more than eight sites where it refuses `format`. Says
+how often each reply, reason of a refusal, outcome, record and packet was met, what the pumps did and the link chose, what restarts did with areas, what folds would have met, and each limit, with a
 number at it and with one above it; and which of these were not met. Then some made scenarios of the command `load` are played,
 and their summaries compared. Ends with status 1 where a scenario differs, and prints its seed and the first line that does.
 With --unproved the program is run without any proof, by `rt try`, on all scenarios together but those of `load`, and what this says
@@ -66,9 +66,10 @@ ALL = SITES + REPLIES + OUTCOMES + RECORDED + VOTES + RULES + DELIVERIES + PUMPS
 # What the model counts of journals where there are areas: what restarts do with two, and records for which there is no place.
 AREAS = ["load fails", "pack into A", "pack into B", "pack fails before the switch byte", "pack fails at the switch byte",
          "full behind a pack", "full, of 1 area", "full, of 2 areas"]
-# What comes of upgrades, where there are formats.
+# What comes of upgrades, where there are formats, and how many sites there may be then.
 FORMATS = [f"upgrade {outcome}" for outcome in ("taken", "passed", "failed", "full", "down")]
 FORMATS += [f"Format {how}" for how in ("stable", "in flight", "found")]
+FORMATS += [f"sites {number}" for number in range(9, 17)]
 # How many calls a made scenario may have.
 CALLS = [0, 1, 2, 10, 100, 500, 1000, 2000, 4000]
 
@@ -192,7 +193,7 @@ def main():
     parser.add_argument("--scenarios", type=int, default=1000, metavar="N", help="how many are played; 1000 without it")
     parser.add_argument("--loads", type=int, default=12, metavar="N", help="how many loads are played behind them; 12 without "
                         "it")
-    parser.add_argument("--several", action="store_true", help="play those of two to eight sites alone, and count only these")
+    parser.add_argument("--several", action="store_true", help="play those of two sites and more alone, and count only these")
     parser.add_argument("--one-area", action="store_true", help="make scenarios without the key `areas`")
     parser.add_argument("--seed", type=int, default=0, metavar="N", help="the seed of the first; 0 without it")
     parser.add_argument("--program", metavar="PATH", help="the program; without it that of this repository, which "

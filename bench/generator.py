@@ -9,7 +9,7 @@ which tells which packets there are: so most deliveries find one, in order or no
 sites are pumped too, by a link of any rates, and so they are in some of one site. Most have journals of two areas, with about
 as many bytes for each as a journal of one area would have; of some the capacity is one at which a record just fits, or just
 doesn't. Arms are aimed at restarts too, at the calls of their loads, their packs and their Boots. Journals begin in either
-format, and in most some sites are upgraded, amid faults of their disks too.
+format, and in most some sites are upgraded, amid faults of their disks too. Some of several sites have up to sixteen.
 """
 
 import random
@@ -619,6 +619,21 @@ def with_formats(seed, made, faults):
     return {**made, **({} if form is None else {"format": form}), "steps": steps}
 
 
+def with_sites(seed, made):
+    """The scenario with further sites, up to sixteen, in one of eight seeds: they begin late, and take what others have put out."""
+    rng, sites = random.Random(f"sites {seed}"), made["sites"]
+    if rng.random() >= 0.125:
+        return made
+    more = rng.randint(journals.MOST_OF_FIRST + 1, readings.MOST_SITES)
+    steps = []
+    for _ in range(rng.randint(10, 60)):
+        late, early = rng.randrange(sites, more), rng.randrange(more)
+        to_late, to_early = (["deliver", *both, rng.randint(1, 6)] for both in ((late, early), (early, late)))
+        steps.append(rng.choice([["pump", late]] * 4 + [["advance", late, early], to_late, to_early] * (late != early)))
+    kept = {key: value for key, value in made.items() if (key, value) != ("format", 1)}
+    return {**kept, "sites": more, "steps": [*made["steps"], *steps]}
+
+
 # The kinds, by seed
 
 AT_LIMIT = [many_open, many_updates, many_bytes, many_ids, long_value, long_frame, full_lane, full_window, many_ticks]
@@ -638,7 +653,7 @@ def kind_of(seed):
 
 def scenario(seed, areas=True, room=True, formats=True):
     """The scenario of a seed; where no areas are asked for none has the key `areas`, and so of `room`; where no formats are, none
-    has the key `format` or a step that upgrades a site."""
+    has the key `format`, a step that upgrades a site, or more than eight sites."""
     rng, kind = random.Random(seed), kind_of(seed)
     if kind in FOLDED:
         made = folded(rng, kind, areas)
@@ -647,6 +662,8 @@ def scenario(seed, areas=True, room=True, formats=True):
         made.update(areas_of(rng, made) if areas else {})
     else:
         made = several(rng, kind, areas)
-    made = with_formats(seed, made, kind is not None) if formats else made
+    if formats:
+        made = with_formats(seed, made, kind is not None)
+        made = with_sites(seed, made) if kind in SEVERAL else made
     made = fitted(rng, made) if kind and rng.random() < 0.25 else made
     return {**made, **(room_of(seed) if room else {})}

@@ -11,6 +11,7 @@ from played import InFolder, TOP, RANDOM, examples, file_text, random_scenario, 
 import generator
 import journals
 import model
+import readings
 import reports
 import words
 from spelled import frame, record_of
@@ -134,7 +135,8 @@ class Shown(InWords):
                 told = self.lines(data, "--capacity", str(site.capacity), "--sites", str(site.count))
                 found = [line.split(": ", 1)[1] for line in told if re.match(" +(entry|gate [0-9]+ open)", line)]
                 records = site.records + [site.flight] * (len(found) - len(site.records))
-                self.assertEqual(found, [words.whole_record(reports.record_of(record_of(one), site.count)) for one in records])
+                bodies = (record_of(one, readings.format_of(site.count)) for one in records)
+                self.assertEqual(found, [words.whole_record(reports.record_of(body, site.count)) for body in bodies])
 
     def settled(self, site):
         site.disk.settle()
