@@ -18,7 +18,7 @@ import readings
 from spelled import *
 
 REGULAR_AT_0, REGULAR_AT_1, SET_AT_0 = [1, "regular", 0], [2, "regular", 1], [3, "cset", 0]
-RECORDS = [None, "Boot", "Own", "Got", "Seen", "Prepared", "Released", "SlowBegin", "SlowEnd", "Marks"]
+RECORDS = [None, "Boot", "Own", "Got", "Seen", "Prepared", "Released", "SlowBegin", "SlowEnd", "Marks", "Format"]
 
 
 def level(*tid):

@@ -73,7 +73,7 @@ CASES = [
     ("20,001 calls", ["load", "--seed", "7", "--calls", "20001"], "", None, 1, WORDS, ""),
     ("a seed of 2^64", ["load", "--seed", "18446744073709551616", "--calls", "5"], "", None, 1, WORDS, ""),
     ("an open bracket", ["play"], "[", None, 2, NO_READING + "the text is no JSON: line 1, column 1", ""),
-    ("nine sites", ["play"], scenario(sites="9"), None, 2, NO_READING + SITES, ""),
+    ("seventeen sites", ["play"], scenario(sites="17"), None, 2, NO_READING + SITES, ""),
     ("another key", ["play"], scenario(more=',"speed":1'), None, 2, NO_READING + 'key "speed": a scenario has none', ""),
     ("odd hex", ["play"], scenario(clients='[0,"0"]'), None, 2, NO_READING + readings.TEXTS["clients"].format(0), ""),
     ("no keys", ["play"], "{}", None, 2, NO_READING + readings.TEXTS["keys"], ""),

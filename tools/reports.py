@@ -5,7 +5,9 @@ import re
 import struct
 from collections import namedtuple
 
-MOST_BODY, MOST_ENTRIES, MOST_UPDATES, MOST_IDS, MOST_SITES = 65536, 100_000, 256, 4095, 8
+MOST_BODY, MOST_ENTRIES, MOST_UPDATES, MOST_IDS, MOST_SITES = 65536, 100_000, 256, 4095, 16
+# The most sites that a journal of the first format serves.
+MOST_OF_FIRST = 8
 LOAD_SITES, MOST_CALLS = 3, 20_000
 PACKETS = ("propagate", "ack", "dsmark", "visible", "prepare", "vote", "release", "released")
 CALLS = ("start", "read", "write", "setadd", "setdel", "setread", "setreadid", "commit", "abort", "level", "bad")
@@ -19,7 +21,7 @@ Entry = namedtuple("Entry", "place line stamp site event outcome kept wrote flig
 Report = namedtuple("Report", "sites tolerated clients lines entries")
 # A site's line, as it says it of the site's trail.
 SiteLine = namedtuple("SiteLine", "place up epoch events records got committed log")
-# A record: its kind, and of these what it has. `site` is another site, `number` an epoch, a commit, or a slow commit.
+# A record: its kind, and of these what it has. `site` is another site, `number` an epoch, a commit, a slow commit, or a format.
 Record = namedtuple("Record", "kind site number transaction name objects marks", defaults=(None,) * 6)
 # An update is its kind, `write`, `setadd` or `setdel`, the object, and its bytes or its id.
 Transaction = namedtuple("Transaction", "name slow snapshot updates")
@@ -45,7 +47,7 @@ EVENTS = {
     "call": re.compile(f"(call):{NUMBER}:({'|'.join(CALLS)})"),
     "deliver": re.compile(f"(deliver):{NUMBER}:{NUMBER}:({'|'.join(PACKETS)})"),
     "advance": re.compile(f"(advance):{NUMBER}"),
-    **{word: re.compile(f"({word})") for word in ("tick", "stop", "restart")},
+    **{word: re.compile(f"({word})") for word in ("tick", "upgrade", "stop", "restart")},
 }
 OUTCOMES = {
     "reply": re.compile("(reply):((?:[0-9a-f]{2})+)"),
@@ -98,12 +100,22 @@ def require(right):
         raise ValueError("not as docs/FORMATS.md has it")
 
 
-def transaction_of(cursor, sites):
-    name, slow, vector = cursor.take("BIQ"), cursor.number("Q"), cursor.take("8Q")
-    require(name[0] < sites and not any(vector[sites:]))
+def vector_of(cursor, sites, form):
+    """The numbers of a vector: eight in the first format, of which those of no site are 0; in the second as many as it says."""
+    if form == 1:
+        vector = cursor.take(f"{MOST_OF_FIRST}Q")
+        require(sites <= MOST_OF_FIRST and not any(vector[sites:]))
+        return vector[:sites]
+    require(cursor.number("B") == sites)
+    return cursor.take(f"{sites}Q")
+
+
+def transaction_of(cursor, sites, form):
+    name, slow, vector = cursor.take("BIQ"), cursor.number("Q"), vector_of(cursor, sites, form)
+    require(name[0] < sites)
     count = cursor.number("H")
     require(1 <= count <= MOST_UPDATES)
-    return Transaction(name, slow, vector[:sites], tuple(update_of(cursor) for _ in range(count)))
+    return Transaction(name, slow, vector, tuple(update_of(cursor) for _ in range(count)))
 
 
 def update_of(cursor):
@@ -123,17 +135,28 @@ def objects_of(cursor):
 
 
 def record_of(data, sites):
-    """The record that these bytes spell."""
+    """The record that these bytes spell, in the first format or else in the second."""
+    try:
+        return record_in(1, data, sites)
+    except (ValueError, struct.error):
+        return record_in(2, data, sites)
+
+
+def record_in(form, data, sites):
+    """The record that these bytes spell in a format."""
     cursor = Cursor(data)
-    record = record_at(cursor, cursor.number("B"), sites)
+    record = record_at(cursor, cursor.number("B"), sites, form)
     cursor.end()
     require(record.site is None or record.site < sites)
     return record
 
 
-def record_at(cursor, kind, sites):
-    require(1 <= kind <= 9)
-    name = ("Boot", "Own", "Got", "Seen", "Prepared", "Released", "SlowBegin", "SlowEnd", "Marks")[kind - 1]
+def record_at(cursor, kind, sites, form):
+    require(1 <= kind <= 10)
+    name = ("Boot", "Own", "Got", "Seen", "Prepared", "Released", "SlowBegin", "SlowEnd", "Marks", "Format")[kind - 1]
+    if name == "Format":
+        require(cursor.number("B") == 2)
+        return Record(name, number=2)
     if name == "Boot":
         return Record(name, number=cursor.number("I"))
     if name == "Marks":
@@ -141,7 +164,7 @@ def record_at(cursor, kind, sites):
     site = cursor.number("B") if name in ("Got", "Seen", "Prepared", "Released") else None
     record = Record(name, site, cursor.number("Q"))
     if name in ("Own", "Got", "SlowBegin"):
-        return record._replace(transaction=transaction_of(cursor, sites))
+        return record._replace(transaction=transaction_of(cursor, sites, form))
     if name == "Prepared":
         return record._replace(name=cursor.take("BIQ"), objects=objects_of(cursor))
     return record

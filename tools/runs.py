@@ -158,7 +158,8 @@ class Site:
 
     def learn(self, record, moment):
         learns = {"Boot": self.boot, "Own": self.own, "Got": self.receive, "Seen": self.see, "Prepared": self.prepared,
-                  "Released": self.released, "SlowBegin": self.slow_begin, "SlowEnd": self.slow_end, "Marks": self.marks}
+                  "Released": self.released, "SlowBegin": self.slow_begin, "SlowEnd": self.slow_end, "Marks": self.marks,
+                  "Format": self.upgraded}
         learns[record.kind](record, moment)
 
     def boot(self, _, moment):
@@ -189,6 +190,9 @@ class Site:
 
     def prepared(self, record, moment):
         self.lock(record.site, record.number, record.name, record.objects, moment)
+
+    def upgraded(self, *_):
+        """The records behind it are spelled otherwise, and tell the same."""
 
     def released(self, record, moment):
         self.let_go(record.site, record.number, moment)

@@ -117,7 +117,7 @@ LATER = [
 SLOW = os.path.join(TOP, "examples", "slow_commit.json")
 # What is written for what in the report and the trace of that example, the line that is wrong then, and what is wanted.
 WRONG = [
-    ("sites 2 f 0", "sites 2 f 2", 1, "1 to 8 sites"),
+    ("sites 2 f 0", "sites 2 f 2", 1, "1 to 16 sites"),
     ("clients 2\n", "clients 02\n", 1, "sites N f F clients N"),
     ("client 1 site 1", "client 1 site 0", 9, "a call at its client's site"),
     ("replies 3 ", "replies 4 ", 2, "as many replies as it says"),

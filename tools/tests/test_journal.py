@@ -11,6 +11,7 @@ from played import InFolder, TOP, RANDOM, examples, file_text, random_scenario, 
 import generator
 import journals
 import model
+import readings
 import reports
 import words
 from spelled import frame, record_of
@@ -117,6 +118,15 @@ class Shown(InWords):
         told = [self.lines(data, "--sites", "2") for data in disks_of(example("slow_commit"))]
         self.assertIn('Own 1@1 of 1.1.1, its slow commit 1, with the snapshot 0,0 (write 10:5 "s")', "\n".join(told[1]))
 
+    def test_the_records_of_both_formats(self):
+        made = example("first_run", [["upgrade", 0]])
+        lines = self.lines(disks_of(made)[0])
+        self.assertEqual(lines[0], "WALTERJ1, one area, 149 bytes, for 1 site")
+        self.assertIn("  gate 141 open, record at 142 of 2 bytes: Format 2", lines)
+        (data,) = disks_of({**made, "format": 2})
+        self.assertEqual(self.lines(data)[0], "WALTERJ2, one area, 87 bytes, for 1 site")
+        self.assertIn('record at 19 of 63 bytes: Own 0@1 of 0.1.1, with the snapshot 0 (write 10:5 "hello")', self.lines(data)[2])
+
     def test_all_records_of_random_runs(self):
         """Those of the trail, and one in flight that a restart would find, whatever number of sites is told."""
         for made in [*map(random_scenario, RANDOM[:60]), *(generator.scenario(seed, False) for seed in RANDOM[:20])]:
@@ -125,7 +135,8 @@ class Shown(InWords):
                 told = self.lines(data, "--capacity", str(site.capacity), "--sites", str(site.count))
                 found = [line.split(": ", 1)[1] for line in told if re.match(" +(entry|gate [0-9]+ open)", line)]
                 records = site.records + [site.flight] * (len(found) - len(site.records))
-                self.assertEqual(found, [words.whole_record(reports.record_of(record_of(one), site.count)) for one in records])
+                bodies = (record_of(one, readings.format_of(site.count)) for one in records)
+                self.assertEqual(found, [words.whole_record(reports.record_of(body, site.count)) for body in bodies])
 
     def settled(self, site):
         site.disk.settle()
@@ -202,7 +213,7 @@ class Refused(InWords):
     def test_foreign_bytes(self):
         self.assertEqual(self.wrong(b"WALTER"), "foreign at 0: it has 6 bytes, and a journal at least 9")
         self.assertEqual(self.wrong(b"NOTWALTER"), "foreign at 0: its header is 4e4f5457414c5445, and that of a journal "
-                         "57414c5445524a31 or 57414c5445524b31")
+                         "57414c5445524a31, 57414c5445524b31, 57414c5445524a32 or 57414c5445524b32")
         self.assertEqual(self.wrong(b"WALTERK1" + bytes(20), "--capacity", "46"), "foreign at 0: it has two areas, and these "
                          "want a capacity of at least 47; it is read for 1 site and a capacity of 46 bytes")
 
@@ -241,7 +252,7 @@ class Folder(InWords):
         for number, data in enumerate(disks_of(example("crossed_slow_commits"))):
             self.save(f"site-{number}.journal", data)
         for name in "site-10.journal", "site-.journal", "site-01.journal", "site-0.journal.old", "other":
-            self.save(name, b"WALTERJ1\0" if name == "site-10.journal" else b"")
+            self.save(name, b"WALTERJ2\0" if name == "site-10.journal" else b"")
         status, told, said = run_tool("journal", self.folder)
         self.assertEqual((status, said), (0, ""))
         named = [line.split(": ")[0] for line in told.splitlines() if not line.startswith(" ")]
@@ -255,7 +266,7 @@ class Folder(InWords):
         self.assertEqual((ended.returncode, ended.stdout.decode()), (0, ONE_AREA.format("standard input")))
         for given, status, said in [
             (["--help"], 0, "usage: journal [-h] "), ([], 1, "journal: the following arguments are required: FILE"),
-            (["--sites", "9", "x"], 1, "journal: argument --sites: "),
+            (["--sites", "17", "x"], 1, "journal: argument --sites: "),
             (["--capacity", "many", "x"], 1, "journal: argument --capacity: "),
             (["none"], 3, "journal: none: No such file or directory"),
         ]:
