@@ -205,6 +205,10 @@ class Explain(unittest.TestCase):
             ("two_writers", "bob commit -> aborted: 10:5 was modified by 0@1"),
             ("pumped_link", "pump 1: tick 1 -> to 0: PREPARE 1 of 1.1.1 for 10:5 as packet 3"),
             ("pumped_link", "lost by the link: 1 <- 0 packet 1 VOTE 1 YES"),
+            ("upgraded_in_place", "upgrade 1 -> site 1 journals in the second format from now on"),
+            ("upgraded_in_place", "pump 1: 1 <- 0 packet 2 VOTE 1 YES: committed 1@2"),
+            ("sixteen_sites", "hal commit -> aborted: 7:1 is locked by 0.1.1"),
+            ("sixteen_sites", "0 <- 15 packet 1 VOTE 1 YES: committed 0@1"),
         ]:
             self.assertIn(line, self.explained(example_run(os.path.join(TOP, "examples", name + ".json"))))
 

@@ -18,7 +18,12 @@ import scripts
 import words
 from spelled import *
 
-FIRST_RUN = json.loads(file_text(os.path.join(TOP, "examples", "first_run.json")))
+
+def example(name):
+    return json.loads(file_text(os.path.join(TOP, "examples", f"{name}.json")))
+
+
+FIRST_RUN = example("first_run")
 UPGRADE = [["upgrade", 0]]
 STOP = [["stop", 0], ["restart", 0]]
 BOOT, TOLD = b"\1\0\0\0\1", b"\x0a\2"
@@ -166,6 +171,36 @@ class Upgrades(unittest.TestCase):
             self.assertEqual((restart[4], restart[5]), ("taken", kept))
             self.assertEqual(again[4], "passed" if kept != "-" else "taken")
             self.assertEqual(bodies_on(site).count(TOLD), 1)
+
+
+class Examples(unittest.TestCase):
+    def test_a_site_is_upgraded_amid_its_commits(self):
+        made = example("upgraded_in_place")
+        run = model.played(made, Counter())
+        first, upgraded, last = run.sites
+        self.assertEqual([site.form for site in run.sites], [1, 2, 1])
+        own = [record for record in upgraded.records if record[0] in (OWN, SLOW_BEGIN)]
+        self.assertEqual([kind for kind, *_ in own], [OWN, SLOW_BEGIN, OWN, OWN])
+        spelled = [record_of(record, form) for record, form in zip(own, (1, 1, 2, 2))]
+        bodies = bodies_on(upgraded)
+        self.assertEqual([body for body in bodies if body[0] in (OWN, SLOW_BEGIN)], spelled)
+        self.assertEqual([at for at, body in enumerate(bodies) if body == TOLD], [3])
+        self.assertEqual([line.split(" ")[6] for line in run.text().splitlines() if " upgrade " in line], [TOLD.hex(), "-"])
+        self.assertEqual(upgraded.last_epoch(), 2)
+        for site in first, last:
+            self.assertEqual((site.log, dict(site.rows)), (upgraded.log, dict(upgraded.rows)))
+            self.assertEqual([record_of(record, 1) for record in site.records], bodies_on(site))
+
+    def test_a_slow_commit_asks_fifteen_sites(self):
+        run = model.played(example("sixteen_sites"), Counter())
+        asking, *asked = run.sites
+        self.assertEqual((asking.count, asking.tolerated, [site.form for site in run.sites]), (16, 15, [2] * 16))
+        updates = asking.log[0, 1].updates
+        self.assertEqual([site.here(updates) for site in run.sites], [((number, 1),) for number in range(16)])
+        begun = next(entry for entry in asking.entries if entry.wrote and entry.wrote[0] == SLOW_BEGIN)
+        self.assertEqual([(to, packet[0]) for to, packet in begun.sends], [(number, PREPARE) for number in range(1, 16)])
+        self.assertEqual([site.log for site in asked], [asking.log] * 15)
+        self.assertEqual([site.locks for site in run.sites], [{}] * 16)
 
 
 class Sites(unittest.TestCase):
