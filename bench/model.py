@@ -96,7 +96,7 @@ class Site:
         self.met, self.me, self.count, self.tolerated = met, me, scenario["sites"], scenario["f"]
         self.containers = {number: (kind, site) for number, kind, site in scenario["containers"]}
         self.capacity, self.areas = scenario.get("capacity", readings.CAPACITY), scenario.get("areas", 1)
-        # The format of the journal's header. That in force is `form`.
+        # The format of the journal's header, which is that of a new one until the journal is loaded. That in force is `form`.
         self.header = scenario.get("format", readings.format_of(self.count))
         self.peers = [k for k in range(self.count) if k != me]
         self.disk, self.journal = Disk(), None
@@ -296,6 +296,7 @@ class Site:
 
     def load(self):
         self.journal = Journal(self.disk, self.capacity, self.areas, self.count, self.header)
+        self.header = self.journal.form
 
     def pack(self):
         """Packs the journal where it has two areas. A fault leaves the content as it is, so no record is in flight then."""
