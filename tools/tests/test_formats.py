@@ -13,6 +13,7 @@ import model
 import pictures
 import readings
 import reports
+import rows
 import runs
 import scripts
 import words
@@ -226,6 +227,21 @@ class Sites(unittest.TestCase):
         for site in run.sites[1:]:
             tx = model.Tx(RUN[0], 0, (0,) * 16, RUN[1])
             self.assertEqual(bodies_on(site)[-1], record_of((GOT, 0, 1, tx), 2))
+
+    def test_worked_runs_of_few_sites_come_to_the_same_beside_many_that_hear_nothing(self):
+        """But where a commit becomes visible everywhere, or the first format is wanted."""
+        for name, play in rows.ROWS.items():
+            made = play().made
+            is_of_first = "capacity" in made or any(word == "upgrade" for word, *_ in made["steps"])
+            if made["sites"] > 8 or is_of_first or name == "a commit is durable and then visible":
+                continue
+            few = model.played(made, Counter())
+            for sites in 9, 16:
+                many = model.played({**made, "sites": sites}, Counter())
+                self.assertEqual(many.replies, few.replies, name)
+                for one, other in zip(many.sites, few.sites):
+                    self.assertEqual([(entry.event, entry.outcome) for entry in one.entries],
+                                     [(entry.event, entry.outcome) for entry in other.entries], name)
 
     def test_a_format_is_refused_behind_the_room(self):
         text = readings.TEXTS["format"]
