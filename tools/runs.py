@@ -149,7 +149,7 @@ class Site:
         self.log, self.held = [], {}
         self.got, self.committed = [0] * scenario.sites, [0] * scenario.sites
         self.slows, self.locks, self.over, self.all_locks = {}, {}, set(), []
-        self.floors, self.flight = (0, 0), None
+        self.floors, self.flight, self.is_upgraded = (0, 0), None, False
         self.go_down()
 
     def go_down(self):
@@ -193,6 +193,7 @@ class Site:
 
     def upgraded(self, *_):
         """The records behind it are spelled otherwise, and tell the same."""
+        self.is_upgraded = True
 
     def released(self, record, moment):
         self.let_go(record.site, record.number, moment)
