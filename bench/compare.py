@@ -3,12 +3,13 @@
 
 They are those of generator.py: of one site and of several, up to sixteen, over journals of one area and of two and of either
 format, some by a link, one of eleven with transactions that stay open while rows may be folded, one of fourteen made to come to a
-limit; with --several those of two sites and more alone, as many as are asked for. Where the program refuses the key `areas`, and with --one-area, none has
-it; nor `room` where the program refuses that, nor `format`, an upgrade or more than eight sites where it refuses `format`. Says
-how often each reply, reason of a refusal, outcome, record and packet was met, what the pumps did and the link chose, what restarts
-did with areas, what folds would have met, and each limit, with a number at it and with one above it; and which of these were not
-met. Then some made scenarios of the command `load` are played, and their summaries compared. Ends with status 1 where a scenario
-differs, and prints its seed and the first line that does.
+limit; with --several those of two sites and more alone, as many as are asked for. Where the program refuses the key `areas`, and
+with --one-area, none has it; nor `room` where the program refuses that, nor `format`, an upgrade or more than eight sites where it
+refuses `format`. Says how often each reply, reason of a refusal, outcome, record and packet was met, what the pumps did and the link
+chose, what restarts did with areas, what folds would have met, and each limit, with a number at it and with one above it; and which
+of these were not met. Then some made scenarios of the command `load` are played, and their summaries compared. Ends with status 1
+where a scenario differs, and prints its seed and the first line that does.
+
 With --unproved the program is run without any proof, by `rt try`, on all scenarios together but those of `load`, and what this says
 of each that differs is printed; with --model the model plays alone, and nothing is compared.
 """
