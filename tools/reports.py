@@ -6,8 +6,8 @@ import struct
 from collections import namedtuple
 
 MOST_BODY, MOST_ENTRIES, MOST_UPDATES, MOST_IDS, MOST_SITES = 65536, 100_000, 256, 4095, 16
-# The most sites that a journal of the first format serves.
-MOST_OF_FIRST = 8
+# The formats of records, and the most sites that a journal of the first one serves.
+FORMS, MOST_OF_FIRST = (1, 2), 8
 LOAD_SITES, MOST_CALLS = 3, 20_000
 PACKETS = ("propagate", "ack", "dsmark", "visible", "prepare", "vote", "release", "released")
 CALLS = ("start", "read", "write", "setadd", "setdel", "setread", "setreadid", "commit", "abort", "level", "bad")
@@ -136,10 +136,18 @@ def objects_of(cursor):
 
 def record_of(data, sites):
     """The record that these bytes spell, in the first format or else in the second."""
-    try:
-        return record_in(1, data, sites)
-    except (ValueError, struct.error):
-        return record_in(2, data, sites)
+    return spelled_in(FORMS, data, sites)[1]
+
+
+def spelled_in(forms, data, sites):
+    """The first of some formats in which these bytes spell a record, and the record."""
+    *others, last = forms
+    for form in others:
+        try:
+            return form, record_in(form, data, sites)
+        except (ValueError, struct.error):
+            pass
+    return last, record_in(last, data, sites)
 
 
 def record_in(form, data, sites):
@@ -293,6 +301,8 @@ class Reading:
         sites, tolerated, count = map(int, self.match(HEAD_LINE, "sites N f F clients N").groups())
         self.check(1 <= sites <= MOST_SITES and tolerated < sites, f"1 to {MOST_SITES} sites, fewer of them to be lost")
         self.sites = sites
+        # The format in force at each site, as far as its records tell it: which one its journal began in no line says.
+        self.forms = [None] * sites
         clients = [self.client(number) for number in range(count)]
         lines = [self.site(number) for number in range(sites)]
         entries = []
@@ -345,11 +355,23 @@ class Reading:
         self.check(site < self.sites, f"a site below {self.sites}")
         self.check(before is None or (before.stamp, before.site) < (stamp, site), "entries by stamp, and then by site")
         event = self.event(match[3], site, clients)
-        records = [self.bytes_as(record_of, "records as docs/FORMATS.md has them", hex_of(text), self.sites)
-                   if text != "-" else None for text in match.groups()[4:7]]
+        records = [self.record(site, text, in_flight) for text, in_flight in zip(match.groups()[4:7], (False, False, True))]
         sends = self.sends(match[8], site)
         outcome = self.outcome(match[4], event)
         return Entry(self.at, match[0], stamp, site, event, outcome, *records, sends, int(match[9]))
+
+    def record(self, site, text, in_flight):
+        """The record of a site that is told, which is to be in the format in force there. One in flight changes none."""
+        if text == "-":
+            return None
+        forms = (self.forms[site],) if self.forms[site] else FORMS
+        form, record = self.bytes_as(spelled_in, "records as docs/FORMATS.md has them", forms, hex_of(text), self.sites)
+        if record.kind == "Format":
+            self.check(self.forms[site] != 2, "no record Format where the second format is in force")
+            form = 1 if in_flight else 2
+        if record.transaction or record.kind == "Format":
+            self.forms[site] = form
+        return record
 
     def event(self, text, site, clients):
         match = match_of(EVENTS, text)

@@ -307,6 +307,29 @@ class Words(unittest.TestCase):
                                         'Own 0@2 of 0.1.2, with the snapshot 1,0 (write 1:1 "y")'])
         self.assertIn("Format: the records behind it are in the second format", pictures.Picture(run).svg())
 
+    def test_a_record_is_read_in_the_format_in_force(self):
+        """Where it is in the other one, or a second Format comes, the report is refused; whichever format the journal began in."""
+        made = scripts.read(self.SCRIPT)
+        lines = model.played(made, Counter()).text().splitlines(keepends=True)
+        tx = model.Tx((0, 1, 2), 0, (1, 0), ((WRITE, (1, 1), b"y"),))
+        for line, other, wanted in [
+            (record_of((OWN, 2, tx), 2).hex(), record_of((OWN, 2, tx), 1).hex(), "records as docs/FORMATS.md has them"),
+            (" upgrade passed - - - ", " upgrade passed - 0a02 - ", "no record Format where the second format is in force"),
+        ]:
+            at = next(place for place, one in enumerate(lines) if line in one)
+            text = "".join([*lines[:at], lines[at].replace(line, other), *lines[at + 1 :]])
+            with self.assertRaisesRegex(reports.Wrong, f"line {at + 1}: wants {wanted}"):
+                reports.read(text)
+        reports.read(model.play({**made, "format": 2}, Counter()))
+
+    def test_a_format_in_flight_is_in_force_where_it_is_found(self):
+        for choice, form in (0, 1), (1, 2):
+            made = scripts.read(self.SCRIPT.replace("upgrade 0\n", f"arm 0 call 3 choice {choice}\nupgrade 0\nrestart 0\n", 1)
+                                .replace("upgrade 0\nann", "ann", 1))
+            run = model.played(made, Counter())
+            self.assertEqual([entry.form for entry in run.sites[0].entries if entry.wrote and entry.wrote[0] == OWN], [1, form])
+            reports.read(run.text())
+
     def test_up_to_sixteen_sites_are_read(self):
         run = self.run_of(self.SCRIPT.replace("sites 2", "sites 16"))
         self.assertEqual([step.moment.entry.outcome[0] for step in run.steps if step.made[0] == "upgrade"],
