@@ -81,7 +81,7 @@ class Kills(InFolder):
                 kinds = [kind for kind, *_ in site.records]
                 at = kinds.index(FORMAT)
                 self.assertEqual((kinds.count(FORMAT), kinds[:at].count(OWN), kinds[at:].count(OWN)), (1, 1, 1))
-                    self.assertEqual(site.committed, [2, 2, 2])
+                self.assertEqual(site.committed, [2, 2, 2])
 
     def test_files_with_a_record_format_are_counted(self):
         """A file is right as a front of the whole play, up to the upgrade and behind it; one upgraded otherwise is not."""
