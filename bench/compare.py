@@ -1,13 +1,15 @@
 #!/usr/bin/env python3
 """Plays random scenarios, and compares each report and trace with those of the plain model in model.py.
 
-They are those of generator.py: of one site and of several, over journals of one area and of two, some by a link, one of
-eleven with transactions that stay open while rows may be folded, one of fourteen made to come to a limit; with --several those
-of two to eight sites alone, as many as are asked for. Where the program refuses the key `areas`, and with --one-area, none has
-it; nor `room` where the program refuses that. Says how often each reply, reason of a refusal, outcome, record and packet was
-met, what the pumps did and the link chose, what restarts did with areas, what folds would have met, and each limit, with a
-number at it and with one above it; and which of these were not met. Then some made scenarios of the command `load` are played,
-and their summaries compared. Ends with status 1 where a scenario differs, and prints its seed and the first line that does.
+They are those of generator.py: of one site and of several, up to sixteen, over journals of one area and of two and of either
+format, some by a link, one of eleven with transactions that stay open while rows may be folded, one of fourteen made to come to a
+limit; with --several those of two sites and more alone, as many as are asked for. Where the program refuses the key `areas`, and
+with --one-area, none has it; nor `room` where the program refuses that, nor `format`, an upgrade or more than eight sites where it
+refuses `format`. Says how often each reply, reason of a refusal, outcome, record and packet was met, what the pumps did and the link
+chose, what restarts did with areas, what folds would have met, and each limit, with a number at it and with one above it; and which
+of these were not met. Then some made scenarios of the command `load` are played, and their summaries compared. Ends with status 1
+where a scenario differs, and prints its seed and the first line that does.
+
 With --unproved the program is run without any proof, by `rt try`, on all scenarios together but those of `load`, and what this says
 of each that differs is printed; with --model the model plays alone, and nothing is compared.
 """
@@ -29,7 +31,7 @@ from generator import scenario
 from spelled import *
 
 TOP = os.path.join(os.path.dirname(os.path.abspath(__file__)), "..")
-RECORDS = ["Boot", "Own", "Got", "Seen", "Prepared", "Released", "SlowBegin", "SlowEnd", "Marks"]
+RECORDS = ["Boot", "Own", "Got", "Seen", "Prepared", "Released", "SlowBegin", "SlowEnd", "Marks", "Format"]
 KINDS_OF_REPLY = ["Started", "Value", "Done", "Set", "Count", "Committed", "Aborted", "Deciding", "Level", "Ended", "Unsure"]
 CAUSES = {MODIFIED: "modified", LOCKED: "locked", ASKED: "as asked", DEAD: "over"}
 # All replies but refusals, and all reasons of a refusal that docs/FORMATS.md has but for want of memory.
@@ -43,7 +45,7 @@ OUTCOMES = [f"{packet} {outcome}" for packet in PACKETS for outcome in ("taken",
 OUTCOMES += [f"advance {outcome}" for outcome in ("taken", "passed", "failed", "full", "down")]
 OUTCOMES += [f"restart {outcome}" for outcome in ("taken", "passed", "failed", "full")]
 OUTCOMES += ["stop taken", "stop down", "tick passed", "tick down"]
-RECORDED = [f"{record} {how}" for record in RECORDS for how in ("stable", "in flight", "found")]
+RECORDED = [f"{record} {how}" for record in RECORDS[:-1] for how in ("stable", "in flight", "found")]
 VOTES = ["VOTE YES", "VOTE LATER", "VOTE NO modified", "VOTE NO locked", "VOTE NO over"]
 # What the model counts while it plays: why a peer is to be asked again, and an ACK of several commits at once.
 RULES = ["LATER before all is received", "LATER over the lock of a cause", "ACK that jumps"]
@@ -66,6 +68,10 @@ ALL = SITES + REPLIES + OUTCOMES + RECORDED + VOTES + RULES + DELIVERIES + PUMPS
 # What the model counts of journals where there are areas: what restarts do with two, and records for which there is no place.
 AREAS = ["load fails", "pack into A", "pack into B", "pack fails before the switch byte", "pack fails at the switch byte",
          "full behind a pack", "full, of 1 area", "full, of 2 areas"]
+# What comes of upgrades, where there are formats, and how many sites there may be then.
+FORMATS = [f"upgrade {outcome}" for outcome in ("taken", "passed", "failed", "full", "down")]
+FORMATS += [f"Format {how}" for how in ("stable", "in flight", "found")]
+FORMATS += [f"sites {number}" for number in range(9, 17)]
 # How many calls a made scenario may have.
 CALLS = [0, 1, 2, 10, 100, 500, 1000, 2000, 4000]
 
@@ -177,10 +183,10 @@ def compare_unproved(folder, count):
         sys.exit("\n".join(line for line in tried.stdout.splitlines() if "output=expected" not in line))
 
 
-def made_from(first, count, several, areas=True, room=True):
-    """So many seeds from the first on, each with its scenario; of several sites alone, or without areas or room, where that is
-    asked for."""
-    all_made = ((seed, scenario(seed, areas, room)) for seed in itertools.count(first))
+def made_from(first, count, several, areas=True, room=True, formats=True):
+    """So many seeds from the first on, each with its scenario; of several sites alone, or without areas, room or formats, where
+    that is asked for."""
+    all_made = ((seed, scenario(seed, areas, room, formats)) for seed in itertools.count(first))
     return itertools.islice((one for one in all_made if one[1]["sites"] > 1 or not several), count)
 
 
@@ -189,7 +195,7 @@ def main():
     parser.add_argument("--scenarios", type=int, default=1000, metavar="N", help="how many are played; 1000 without it")
     parser.add_argument("--loads", type=int, default=12, metavar="N", help="how many loads are played behind them; 12 without "
                         "it")
-    parser.add_argument("--several", action="store_true", help="play those of two to eight sites alone, and count only these")
+    parser.add_argument("--several", action="store_true", help="play those of two sites and more alone, and count only these")
     parser.add_argument("--one-area", action="store_true", help="make scenarios without the key `areas`")
     parser.add_argument("--seed", type=int, default=0, metavar="N", help="the seed of the first; 0 without it")
     parser.add_argument("--program", metavar="PATH", help="the program; without it that of this repository, which "
@@ -199,14 +205,14 @@ def main():
     parser.add_argument("--model", action="store_true", help="play the model alone")
     words = parser.parse_args()
     program = None if words.model or words.unproved else words.program or built()
-    areas, room = (program is None or knows(program, key) for key in ("areas", "room"))
-    for key, known in ("areas", areas or words.one_area), ("room", room):
+    areas, room, formats = (program is None or knows(program, key) for key in ("areas", "room", "format"))
+    for key, known in ("areas", areas or words.one_area), ("room", room), ("format", formats):
         if not known:
             print(NO_KEY.format(key))
     areas = areas and not words.one_area
     met = Counter()
     with tempfile.TemporaryDirectory() as folder:
-        for seed, made in made_from(words.seed, words.scenarios, words.several, areas, room):
+        for seed, made in made_from(words.seed, words.scenarios, words.several, areas, room, formats):
             run = folds.played(made, met)
             if program:
                 compare([program, "play", "--trace"], f"seed {seed}", json.dumps(made), run.text())
@@ -219,7 +225,7 @@ def main():
     made_loads = [] if words.unproved else loads_from(words.seed, words.loads)
     for seed, calls in made_loads:
         compare_load(program, seed, calls)
-    counted = ALL + AREAS if areas else ALL
+    counted = ALL + (AREAS if areas else []) + (FORMATS if formats else [])
     print("met: " + "; ".join(f"{kind}: {met[kind]:,}" for kind in counted if met[kind]))
     print("not met: " + ("; ".join(kind for kind in counted if not met[kind]) or "none"))
     how = "played by the model" if words.model else "the same"

@@ -68,26 +68,28 @@ def overwrite(image, at, data):
 
 
 class Journal:
-    """A journal on a disk: its bodies as they were loaded, the area that counts, and the place of the first closed gate.
+    """A journal on a disk: the format of its header, its bodies as they were loaded, the area that counts, and the place of the
+    first closed gate.
 
     Of the calls that an arm counts a load makes one, a read of the whole disk. Where the disk has no bytes it makes the writes
     of a new journal, and a sync. An append makes four, of which the third opens the gate. A pack makes four, of which the third
     turns to the other area; and before them one for each piece of zeros, where the disk ends in front of that area.
     """
 
-    def __init__(self, disk, capacity, areas=1, sites=journals.MOST_SITES):
+    def __init__(self, disk, capacity, areas=1, sites=journals.MOST_OF_FIRST, form=1):
         self.disk, self.capacity, self.sites = disk, capacity, sites
         # Whether a pack has come to the switch byte.
         self.turns = False
         if not disk.reads and not disk.pending:
-            content = journals.empty(areas, capacity)
+            content = journals.empty(areas, capacity, form)
             self.write_pieces(0, content)
             disk.sync()
         else:
             disk.settle()
             content = disk.read()
         holding = journals.read(content, capacity, sites)
-        self.bodies, self.area, self.gate = journals.bodies_of(holding), holding.area, holding.gate
+        self.form, self.bodies = holding.form, journals.bodies_of(holding)
+        self.area, self.gate = holding.area, holding.gate
 
     def write_pieces(self, at, data):
         for first in range(0, len(data), MOST_WRITE):

@@ -8,7 +8,8 @@ several, in the kinds of `SEVERAL`. All but those of one site and those at limit
 which tells which packets there are: so most deliveries find one, in order or not, again, late or never. In three of the kinds
 sites are pumped too, by a link of any rates, and so they are in some of one site. Most have journals of two areas, with about
 as many bytes for each as a journal of one area would have; of some the capacity is one at which a record just fits, or just
-doesn't. Arms are aimed at restarts too, at the calls of their loads, their packs and their Boots.
+doesn't. Arms are aimed at restarts too, at the calls of their loads, their packs and their Boots. Journals begin in either
+format, and in most some sites are upgraded, amid faults of their disks too. Some of several sites have up to sixteen.
 """
 
 import random
@@ -126,7 +127,7 @@ def sizes(site):
     """With how many bytes of its journal, or of an area of it, a site's records just have place, record by record."""
     found, size, packed = [], LEAST_SIZE, LEAST_SIZE
     for entry in site.entries:
-        kept, wrote = (record and record_of(record) for record in (entry.kept, entry.wrote))
+        kept, wrote = (record and record_of(record, entry.form) for record in (entry.kept, entry.wrote))
         if kept is not None:
             size, packed = size + 5 + len(kept), packed + len(journals.entry_of(kept, site.count))
         if site.areas == 2 and entry.event == "restart" and entry.outcome != "passed":
@@ -604,6 +605,35 @@ def room_of(seed):
     return {} if room is None else {"room": room}
 
 
+def with_formats(seed, made, faults):
+    """The scenario with journals that begin in either format, and with sites that are upgraded, amid faults of their disks where
+    these are asked for. It is drawn apart too, but that a journal may be shorter or longer then."""
+    rng, sites, steps = random.Random(f"format {seed}"), made["sites"], list(made["steps"])
+    form = rng.choice([None, None, 1, 1, 2])
+    for _ in range(rng.choice([0, 0, 1, 2, sites])):
+        site, at = rng.randrange(sites), rng.randint(0, len(steps))
+        steps[at:at] = [["upgrade", site]]
+        if faults and rng.random() < 0.3:
+            steps[at + 1 : at + 1] = [["restart", site]] * rng.randint(0, 2)
+            steps[at:at] = [["arm", site, rng.randint(1, 4), rng.choice(CHOICES)]]
+    return {**made, **({} if form is None else {"format": form}), "steps": steps}
+
+
+def with_sites(seed, made):
+    """The scenario with further sites, up to sixteen, in one of eight seeds: they begin late, and take what others have put out."""
+    rng, sites = random.Random(f"sites {seed}"), made["sites"]
+    if rng.random() >= 0.125:
+        return made
+    more = rng.randint(journals.MOST_OF_FIRST + 1, readings.MOST_SITES)
+    steps = []
+    for _ in range(rng.randint(10, 60)):
+        late, early = rng.randrange(sites, more), rng.randrange(more)
+        to_late, to_early = (["deliver", *both, rng.randint(1, 6)] for both in ((late, early), (early, late)))
+        steps.append(rng.choice([["pump", late]] * 4 + [["advance", late, early], to_late, to_early] * (late != early)))
+    kept = {key: value for key, value in made.items() if (key, value) != ("format", 1)}
+    return {**kept, "sites": more, "steps": [*made["steps"], *steps]}
+
+
 # The kinds, by seed
 
 AT_LIMIT = [many_open, many_updates, many_bytes, many_ids, long_value, long_frame, full_lane, full_window, many_ticks]
@@ -621,8 +651,9 @@ def kind_of(seed):
     return BY_SEED[seed % len(BY_SEED)]
 
 
-def scenario(seed, areas=True, room=True):
-    """The scenario of a seed; where no areas are asked for none has the key `areas`, and so of `room`."""
+def scenario(seed, areas=True, room=True, formats=True):
+    """The scenario of a seed; where no areas are asked for none has the key `areas`, and so of `room`; where no formats are, none
+    has the key `format`, a step that upgrades a site, or more than eight sites."""
     rng, kind = random.Random(seed), kind_of(seed)
     if kind in FOLDED:
         made = folded(rng, kind, areas)
@@ -631,5 +662,8 @@ def scenario(seed, areas=True, room=True):
         made.update(areas_of(rng, made) if areas else {})
     else:
         made = several(rng, kind, areas)
+    if formats:
+        made = with_formats(seed, made, kind is not None)
+        made = with_sites(seed, made) if kind in SEVERAL else made
     made = fitted(rng, made) if kind and rng.random() < 0.25 else made
     return {**made, **(room_of(seed) if room else {})}

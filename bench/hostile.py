@@ -7,9 +7,10 @@
 
 First a million inputs, or --count: valid ones that are changed, cut and joined, by fixed seeds. Of a thousand 960 are what a client
 sends: hundreds of clients stand in one scenario, and each has turns for all its frames. 30 are the text of a scenario, and 10 the
-file of a journal for --disks, of one area or of two. What the model refuses is to be refused by the same name; what it accepts is
-to come to the same report and trace, and over files to the same bytes in the end. A text that asks for a journal of two areas
-above 16 MiB is left out: it takes as much memory.
+file of a journal for --disks, of one area or of two and of either format, with records of both, whatever format the scenario asks
+for; and of up to sixteen sites. What the model refuses is to be refused by the same name; what it accepts is to come to the same
+report and trace, and over files to the same bytes in the end. A text that asks for a journal of two areas above 16 MiB is left out:
+it takes as much memory.
 
 Then the shapes: scenarios of 16 MiB, or of one byte more, each made of one piece again and again. Each has its status and its line
 told by hand, or a small scenario whose report is to come. Each is to end within 10 s of processor time and 500 MB.
@@ -121,8 +122,12 @@ def requests_of(seed, count):
     steps = [["call", number] for number in range(count) for _ in range(turns[number])]
     if rng.random() < 0.3:
         rng.shuffle(steps)
+    for site in range(sites):
+        if rng.random() < 0.3:
+            steps.insert(rng.randint(0, len(steps)), ["upgrade", site])
     containers = [[number, kind, rng.randrange(sites)] for number, kind, _ in generator.CONTAINERS]
-    return {"sites": sites, "f": rng.randrange(sites), "containers": containers, "clients": clients, "steps": steps}
+    return {"sites": sites, "f": rng.randrange(sites), "containers": containers, "clients": clients, "format": rng.choice((1, 2)),
+            "steps": steps}
 
 
 def came_of(program, words, data):
@@ -160,15 +165,16 @@ TOKENS = [b"0", b"1", b"7", b"-1", b"-0", b"1.0", b"1e2", b"1E-2", b"1e999", b"1
           b'"\\ud800"', b'"\\ud83d\\ude00"', b'"\\x"', b'"\\', b"\n", b"\t", b" ", b"\r\n", b"\0", b"\x1f", b"\x7f", b"\xff",
           b"\xed\xa0\x80", b"\xc0\x80", "\u00e9\u0301\u2028".encode(), b'"sites":2,', b'"f":0,', b'"steps":[],', b'"areas":2,',
           b'"capacity":46,', b'"capacity":300,', b'"room":9,', b'"ticks":3,', b'"threads":33,', b'"arms":[[0,1,1]],',
-          b'"seed":1,', b'"a\\n":1,', b'"link":{"seed":0,"lose":0,"repeat":0,"swap":1001},', b'["call",0],', b'["pump",0],',
-          b'["tick",1],', b'["stop",0],', b'["restart",0],', b'["deliver",1,0,1],', b'["advance",0,0],', b'["arm",0,1,0],',
+          b'"format":1,', b'"format":2,', b'"format":3,', b'"sites":16,', b'"sites":17,', b'"seed":1,', b'"a\\n":1,',
+          b'"link":{"seed":0,"lose":0,"repeat":0,"swap":1001},', b'["call",0],', b'["pump",0],', b'["tick",1],', b'["upgrade",0],',
+          b'["upgrade",1],', b'["stop",0],', b'["restart",0],', b'["deliver",1,0,1],', b'["advance",0,0],', b'["arm",0,1,0],',
           b'["arm",0,0,0],', b"[" * 128]
 
 
-VALUES = [0, 1, 1, 2, 3, 7, 8, 9, -1, 19, 46, 47, 255, 256, 1000, 1001, 1024, 10_000, 10_001, 100_000, 100_001, 1_000_000,
+VALUES = [0, 1, 1, 2, 3, 7, 8, 9, 15, 16, 17, -1, 19, 46, 47, 255, 256, 1000, 1001, 1024, 10_000, 10_001, 100_000, 100_001, 1_000_000,
           1_000_001, 4_294_967_295, 4_294_967_296, 1_099_511_627_776, 1_099_511_627_777, (1 << 64) - 1, 1 << 64, 1.0, 0.5, True,
           None, "", "regular", "cset", "00", "0000000101", "0000000108", "0", "xx", "tick", "pump", "\u00e9", [], {}, [0],
-          ["tick", 0], ["pump", 0], ["stop", 0], ["restart", 0], ["arm", 0, 1, 7], ["call", 0], ["deliver", 0, 1, 1],
+          ["tick", 0], ["upgrade", 0], ["pump", 0], ["stop", 0], ["restart", 0], ["arm", 0, 1, 7], ["call", 0], ["deliver", 0, 1, 1],
           ["advance", 0, 1], [0, 1, 1], [0, ""], [9, "cset", 0], {"seed": 1, "lose": 0, "repeat": 1000, "swap": 500}]
 
 
@@ -264,34 +270,48 @@ def try_text(program, bases, seed, met):
 
 
 CAPACITIES = [19, 29, 47, 60, 300, 700, 4096, 70_000, 140_000]
+HEADERS = [header for both in journals.HEADERS.values() for header in both]
+# A commit of the first of two sites in both formats, and a record Format.
+COMMITTED_IT = OWN, 1, model.Tx((0, 1, 1), 0, (0, 0), ((WRITE, (1, 5), b"hello"),))
+RECORDS_OF_BOTH = [record_of(COMMITTED_IT, 1), record_of(COMMITTED_IT, 2), record_of((FORMAT,))]
 PIECES_OF_JOURNAL = [b"\0", b"\1", b"\2", b"\xff", bytes(4), b"\0\0\0\5", b"\0\1\0\0", b"\0\1\0\1", b"\xff" * 4, bytes(8), b"\xff" * 8,
-                     b"\0" * 7 + b"\x0a", b"\1\0\0\0\5\1\0\0\0\1", b"\0\0\0\0\5\1\0\0\0\1", journals.HEADER, journals.HEADER_OF_TWO,
-                     journals.HEADER + b"\0", journals.HEADER_OF_TWO + b"\0", bytes(100)]
+                     b"\0" * 7 + b"\x0a", b"\1\0\0\0\5\1\0\0\0\1", b"\0\0\0\0\5\1\0\0\0\1", *HEADERS,
+                     *(header + b"\0" for header in HEADERS), *(mark + frame(body) for body in RECORDS_OF_BOTH for mark in (b"\0", b"\1")),
+                     bytes(100)]
 
 
 def played_over(sites):
-    """A scenario over the journals of some sites: a commit, and stops and restarts of all of them."""
+    """A scenario over the journals of some sites: a commit, an upgrade of each, and stops and restarts of all of them."""
     writes = frames([START_IT, write((1, 5), b"hello"), COMMIT_IT])
+    upgrades = [["upgrade", site] for site in range(sites)]
     restarts = [[word, site] for site in range(sites) for word in ("stop", "restart") * 2]
     calls = [["call", site] for site in range(sites) for _ in range(3)]
+    others = [["deliver", 0, sites - 1, 1]] if sites > 1 else []
     return {"sites": sites, "f": 0, "containers": [[1, "regular", 0]], "clients": [[site, (writes * 2).hex()] for site in range(sites)],
-            "steps": [*calls, *restarts, ["deliver", 0, sites - 1, 1], *calls] if sites > 1 else [*calls, *restarts, *calls]}
+            "steps": [*calls, *upgrades, *restarts, *others, *calls]}
 
 
-def journals_of(capacity, areas, sites):
+def forms_of(sites):
+    """The formats of which the journals of so many sites may be."""
+    return range(readings.format_of(sites), 3)
+
+
+def journals_of(capacity, areas, form, sites):
     """Journals, of no records and of a run's."""
-    yield journals.empty(areas, capacity)
-    for site in model.played({**played_over(sites), "capacity": capacity, "areas": areas}, Counter()).sites:
+    yield journals.empty(areas, capacity, form)
+    for site in model.played({**played_over(sites), "capacity": capacity, "areas": areas, "format": form}, Counter()).sites:
         yield bytes(site.disk.safe)
 
 
 def journal_bases():
-    """Journals by their capacity, each with its number of sites."""
+    """Journals by their capacity, each with its number of sites. Those of the first format serve no sixteen."""
     made = {}
     for capacity in CAPACITIES:
-        for sites in 1, 2, 8:
+        for sites in 1, 2, 8, 16:
             areas = (1, 2) if capacity >= journals.LEAST_OF_TWO else (1,)
-            made[capacity, sites] = [one for number in areas for one in journals_of(capacity, number, sites)]
+            made[capacity, sites] = [one for number in areas for form in forms_of(sites)
+                                     for one in journals_of(capacity, number, form, sites)]
+            made[capacity, sites] += [journals.empty(1, capacity)] * (sites > journals.MOST_OF_FIRST)
     return made
 
 
@@ -349,11 +369,12 @@ def try_journals(program, bases, seed, met):
     rng = random.Random(f"journals {seed}")
     capacity, sites = rng.choice(list(bases))
     contents = [journal_of(rng, bases[capacity, sites]) if rng.random() < 0.5 or not site else b"" for site in range(sites)]
-    made = {**played_over(sites), "capacity": capacity}
+    made = {**played_over(sites), "capacity": capacity, "format": rng.choice(forms_of(sites))}
     causes = [cause_of(content, capacity, sites) for content in contents]
     first = next((site for site, cause in enumerate(causes) if cause), None)
     met["accepted" if first is None else re.sub("[0-9]+", "N", causes[first][0])] += 1
-    met["accepted, of two areas"] += first is None and contents[0][:8] == journals.HEADER_OF_TWO
+    met["accepted, of two areas"] += first is None and journals.is_of_two(contents[0])
+    met["accepted, of the second format"] += first is None and contents[0][:journals.HEADER_SIZE] in journals.HEADERS[2]
     if first is None:
         run = model.played(made, Counter(), lambda scenario, me, met: Found(contents[me], scenario, me, met))
         wanted, left = Come(0, "", run.text()), [bytes(site.disk.safe) for site in run.sites]
@@ -461,13 +482,13 @@ def in_list(key, piece, last, wanted, **parts):
 
 
 def at_all_sites(count, size):
-    """A text with so many clients at eight sites, whose bytes fill it, and the scenario."""
-    front, back = whole(sites="8", clients="[@]")
+    """A text with so many clients at sixteen sites, whose bytes fill it, and the scenario."""
+    front, back = whole(sites="16", clients="[@]")
     room = (size - len(front) - len(back)) // count - len('[0,""],')
     hex = "0" * (room // 2 * 2)
-    clients = [[number % 8, hex] for number in range(count)]
+    clients = [[number % 16, hex] for number in range(count)]
     text = b",".join(b'[%d,"%s"]' % (site, sent.encode()) for site, sent in clients)
-    return (front + text + back).ljust(size), plain(sites=8, clients=clients)
+    return (front + text + back).ljust(size), plain(sites=16, clients=clients)
 
 
 def one_byte_more(size):
@@ -497,7 +518,7 @@ IN_SITES, BEHIND_SITES = whole(sites="@")
 IN_KEYS = b"{"
 BEHIND_KEYS = b"".join(whole())[1:]
 CONTAINERS = [[number, "regular", 0] for number in range(256)]
-EMPTY_CLIENTS = plain(sites=8, clients=[[number % 8, ""] for number in range(8192)])
+EMPTY_CLIENTS = plain(sites=16, clients=[[number % 16, ""] for number in range(16_384)])
 SHAPES = {
     "open brackets": again(b"", b"[", b"", no_json(129)),
     "open braces": again(b"", b'{"a":', b"", no_json(637)),
@@ -544,9 +565,9 @@ SHAPES = {
     "256 containers": lambda size: (json.dumps(plain(containers=CONTAINERS)).encode().ljust(size), plain(containers=CONTAINERS)),
     "clients of nothing": in_list("clients", b'[0,""]', b'[0,""]', lambda count: readings.TEXTS["clients"].format(1024)
                                   if count >= 1024 else plain(clients=[[0, ""]] * (count + 1))),
-    "8,192 clients": partial(at_all_sites, 8192),
-    "8,192 clients of nothing": lambda size: (json.dumps(EMPTY_CLIENTS).encode().ljust(size), EMPTY_CLIENTS),
-    "8,193 clients": lambda size: (at_all_sites(8193, size)[0], readings.TEXTS["clients"].format(8192)),
+    "16,384 clients": partial(at_all_sites, 16_384),
+    "16,384 clients of nothing": lambda size: (json.dumps(EMPTY_CLIENTS).encode().ljust(size), EMPTY_CLIENTS),
+    "16,385 clients": lambda size: (at_all_sites(16_385, size)[0], readings.TEXTS["clients"].format(16_384)),
     "huge hex": huge_hex(b"", None),
     "huge hex with a digit more": huge_hex(b"0", readings.TEXTS["clients"].format(0)),
     "huge hex that ends in another letter": huge_hex(b"0g", readings.TEXTS["clients"].format(0)),

@@ -1,25 +1,31 @@
 """The bytes of a journal, of one area or of two, and what they hold.
 
-A journal of one area is as docs/FORMATS.md has it: a header, and behind it gates and records.
+A journal of one area is as docs/FORMATS.md has it: a header, and behind it gates and records. The header tells the format in which
+its records are spelled, up to a record Format; what is told here is of bytes, whichever format they are in.
 
-One of two areas has a header of its own, a switch byte at place 8, the area A at 9 and the area B behind it. Each area has half
+One of two areas has headers of its own, a switch byte at place 8, the area A at 9 and the area B behind it. Each area has half
 of the capacity less 9, rounded down. B is live where the switch byte is 1, and A where it is any other; what stands in the other
 area doesn't count. An area begins with eight bytes that say how long its pack is, and with the pack. Behind it stand gates and
 records as in a journal of one area, and no record reaches past the area's end. The content is the bodies that are packed, and
 then those behind open gates.
 
 A pack has an entry for each body: one byte of mark, four bytes of length, and so many bytes. The mark is 1 where zeros of the
-body are left out: those by which a transaction's snapshot is filled up to eight sites. It is 0 where the body is whole.
+body are left out: those by which a transaction's snapshot is filled up to eight sites, in the first format. It is 0 where the
+body is whole, as it always is from eight sites on.
 """
 
 import struct
 from collections import namedtuple
 
-HEADER, HEADER_OF_TWO = b"WALTERJ1", b"WALTERK1"
+# By the format, the headers of one area and of two.
+HEADERS = {1: (b"WALTERJ1", b"WALTERK1"), 2: (b"WALTERJ2", b"WALTERK2")}
+HEADER, HEADER_OF_TWO = HEADERS[1]
+# How many bytes a header has, and the most sites that a journal of the first format serves.
+HEADER_SIZE, MOST_OF_FIRST = 8, 8
 # The first gate of one area, and the switch byte of two.
 SWITCH = GATE = 8
 LEAST, LEAST_OF_TWO = 9, 47
-MOST_SITES, MOST_BODY, MOST_TOLD = 8, 65536, (1 << 32) - 1
+MOST_BODY, MOST_TOLD = 65536, (1 << 32) - 1
 # The first bytes of the records that have a transaction, each with the place behind its snapshot: in a Got, the second of them,
 # a site stands before.
 BEHIND_SNAPSHOT = {b"\2": 94, b"\3": 95, b"\7": 94}
@@ -30,8 +36,9 @@ Area = namedtuple("Area", "name begins end")
 Entry = namedtuple("Entry", "place mark length body")
 # A record: the place of its gate, which is open, and its body.
 Record = namedtuple("Record", "gate body")
-# What a journal holds: the live area, what is packed in it, its records, and the place of the closed gate behind them.
-Holding = namedtuple("Holding", "area entries records gate")
+# What a journal holds: the format of its header, the live area, what is packed in it, its records, and the place of the closed
+# gate behind them.
+Holding = namedtuple("Holding", "form area entries records gate")
 
 
 class Wrong(Exception):
@@ -69,20 +76,35 @@ def other_area(area, capacity):
     return both_areas(capacity)[area.name == "A"]
 
 
-def empty(areas, capacity):
+def empty(areas, capacity, form=1):
     """The bytes of a journal without records. By zeros the area A is live, has an empty pack, and a closed gate behind it."""
-    return HEADER + b"\0" if areas == 1 else HEADER_OF_TWO.ljust(both_areas(capacity)[1].begins, b"\0")
+    of_one, of_two = HEADERS[form]
+    return of_one + b"\0" if areas == 1 else of_two.ljust(both_areas(capacity)[1].begins, b"\0")
+
+
+def is_of_two(data):
+    """Whether bytes begin as a journal of two areas does."""
+    return data[:HEADER_SIZE] in [of_two for _, of_two in HEADERS.values()]
+
+
+def format_in(data, sites):
+    """The format that the header of a journal tells, of a site among so many."""
+    if len(data) < LEAST:
+        raise Foreign(f"it has {len(data)} bytes, and a journal at least {LEAST}")
+    header = data[:HEADER_SIZE]
+    for form, both in HEADERS.items():
+        if header in both:
+            if form == 1 and sites > MOST_OF_FIRST:
+                raise Foreign(f"it is of the first format, which serves up to {MOST_OF_FIRST} sites")
+            return form
+    known = [one.hex() for both in HEADERS.values() for one in both]
+    raise Foreign(f"its header is {header.hex()}, and that of a journal {', '.join(known[:-1])} or {known[-1]}")
 
 
 def live_area(data, capacity):
-    """The area whose bodies count, by the header and the switch byte."""
-    if len(data) < LEAST:
-        raise Foreign(f"it has {len(data)} bytes, and a journal at least {LEAST}")
-    header = data[: len(HEADER)]
-    if header == HEADER:
+    """The area whose bodies count, by the header, which is one of a journal, and the switch byte."""
+    if not is_of_two(data):
         return Area(None, GATE, capacity)
-    if header != HEADER_OF_TWO:
-        raise Foreign(f"its header is {header.hex()}, and that of a journal {HEADER.hex()} or {HEADER_OF_TWO.hex()}")
     if capacity < LEAST_OF_TWO:
         raise Foreign(f"it has two areas, and these want a capacity of at least {LEAST_OF_TWO}")
     return both_areas(capacity)[data[SWITCH] == 1]
@@ -93,10 +115,19 @@ def live_area(data, capacity):
 
 def zeros_of(body, sites):
     """Between which places a body has the zeros that a pack leaves out, or None where it leaves out nothing."""
-    end = BEHIND_SNAPSHOT.get(body[:1])
-    first = end and end - 8 * (MOST_SITES - sites)
-    is_short = sites < MOST_SITES and end is not None and len(body) >= end and not any(body[first:end])
+    end = end_of_zeros(body, sites)
+    first = end and first_of_zeros(end, sites)
+    is_short = end is not None and len(body) >= end and not any(body[first:end])
     return (first, end) if is_short else None
+
+
+def end_of_zeros(body, sites):
+    """The place behind the zeros that a body of this kind may have, or None where it may have none."""
+    return BEHIND_SNAPSHOT.get(body[:1]) if sites < MOST_OF_FIRST else None
+
+
+def first_of_zeros(end, sites):
+    return end - 8 * (MOST_OF_FIRST - sites)
 
 
 def entry_of(body, sites):
@@ -113,10 +144,10 @@ def pack_of(bodies, sites):
 
 def body_of(mark, shown, sites):
     """The body of which an entry shows these bytes."""
-    end = BEHIND_SNAPSHOT.get(shown[:1])
+    end = end_of_zeros(shown, sites)
     if mark != 1 or end is None:
         return shown
-    first = end - 8 * (MOST_SITES - sites)
+    first = first_of_zeros(end, sites)
     return shown[:first] + bytes(end - first) + shown[first:]
 
 
@@ -173,12 +204,13 @@ def read_records(data, gate, bound):
 
 def read(data, capacity, sites):
     """What a journal holds of a site among so many."""
+    form = format_in(data, sites)
     area = live_area(data, capacity)
     if area.name is None:
-        return Holding(area, [], *read_records(data, GATE, len(data)))
+        return Holding(form, area, [], *read_records(data, GATE, len(data)))
     bound = min(len(data), area.end)
     entries, gate = read_pack(data, area, bound, sites)
-    return Holding(area, entries, *read_records(data, gate, bound))
+    return Holding(form, area, entries, *read_records(data, gate, bound))
 
 
 def bodies_of(holding):

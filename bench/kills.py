@@ -11,9 +11,11 @@ at that site. Of a killed process the system keeps all that was written: a machi
 
 With --run threads drive the scenario. Two such runs may differ, so no journal is compared with another: each must be readable.
 With --areas the made scenario has journals of two areas, and behind its transactions its sites restart again and again: so some
-kills come amid a pack.
+kills come amid a pack. With --upgrades each of its sites is upgraded amid its commits: so some kills come before the record Format,
+and some behind it. Both may be asked for.
 
-Says how many files were met with how many records, and ends with status 1 where one is wrong: it has a line with what is wrong.
+Says how many files were met with how many records, and how many of them have a record Format. Ends with status 1 where one is wrong:
+it has a line with what is wrong.
 """
 
 import argparse
@@ -30,6 +32,7 @@ from collections import Counter
 import journals
 from compare import built
 from growth import Spread
+from spelled import FORMAT, record_of
 
 KILLS, TRANSACTIONS = 200, 6
 # Of the made scenario with two areas: how often each site restarts, and a capacity that takes several writes to begin with.
@@ -98,6 +101,7 @@ def wrong_with(scenario, folder, whole, is_run, met):
         except journals.Wrong as wrong:
             return f"site {site}: {wrong}"
         met["none" if bodies is None else "whole" if bodies == whole[site] else "a front"] += 1
+        met["upgraded"] += bodies is not None and record_of((FORMAT,)) in bodies
         if bodies is not None and not is_run and bodies != whole[site][: len(bodies)]:
             return f"site {site}: {len(bodies)} records, and not the first ones of the whole play"
     return None
@@ -118,9 +122,18 @@ def tried(program, scenario, is_run, kills, seed):
     return killed, met, lines
 
 
-def made(has_areas=False):
-    """A scenario of three sites, with two areas where that is asked for."""
+def upgraded(made):
+    """The scenario with an upgrade of each site, one after another and amid all that is done."""
+    sites, steps = made["sites"], list(made["steps"])
+    for site in reversed(range(sites)):
+        steps.insert(len(made["steps"]) * (site + 1) // (sites + 1), ["upgrade", site])
+    return {**made, "steps": steps}
+
+
+def made(has_areas=False, has_upgrades=False):
+    """A scenario of three sites, with two areas and with upgrades where these are asked for."""
     one = Spread(TRANSACTIONS).made()
+    one = upgraded(one) if has_upgrades else one
     if has_areas:
         one.update(areas=2, capacity=CAPACITY_OF_TWO)
         one["steps"] += [[word, site] for site in range(one["sites"]) for word in ("stop", "restart")] * RESTARTS
@@ -134,6 +147,7 @@ def main():
                         "proves and builds first where that isn't done yet")
     parser.add_argument("--run", action="store_true", help="let threads drive the scenario")
     parser.add_argument("--areas", action="store_true", help="make a scenario of journals of two areas, whose sites restart")
+    parser.add_argument("--upgrades", action="store_true", help="make a scenario whose sites are upgraded amid their commits")
     parser.add_argument("--kills", type=int, default=KILLS, metavar="K", help=f"how often it is killed; {KILLS} without it")
     parser.add_argument("--seed", type=int, default=1, metavar="N", help="the seed of the moments; 1 without it")
     words = parser.parse_args()
@@ -141,10 +155,11 @@ def main():
         with open(words.scenario, encoding="utf-8") as file:
             text = file.read()
     else:
-        text = made(words.areas)
+        text = made(words.areas, words.upgrades)
     killed, met, lines = tried(words.program or built(), Scenario(text), words.run, words.kills, words.seed)
+    formats = f", {met['upgraded']} with a record Format" if met["upgraded"] else ""
     print(f"{words.kills} plays, {killed} of them killed at work; files: {met['none']} with nothing, {met['a front']} with a front "
-          f"of the records, {met['whole']} with all; {len(lines)} wrong")
+          f"of the records, {met['whole']} with all{formats}; {len(lines)} wrong")
     print("\n".join(lines), end="\n" if lines else "")
     sys.exit(1 if lines else 0)
 

@@ -5,8 +5,9 @@ program: a site keeps the transactions that it has, by version, and what they di
 from these, and after a stop it learns all its records again. It takes scenarios that are right: readings.py refuses others,
 and command.py is the command over both. What the step `pump` takes, and in which order, is drawn by link.py, and loads.py makes
 the scenarios of the command `load`. The key `areas` of a scenario, which is 1 where it is absent, says how many areas each
-journal has: with 2 a restart packs what it has read before it writes its Boot, as disks.py and journals.py tell. The model
-doesn't know want of memory, so the key `room` changes nothing here, or the end of a trail at 100,000 entries.
+journal has: with 2 a restart packs what it has read before it writes its Boot, as disks.py and journals.py tell. The key
+`format` says in which format the journals begin, which a record Format turns to the second from its place on. The model doesn't
+know want of memory, so the key `room` changes nothing here, or the end of a trail at 100,000 entries.
 """
 
 import struct
@@ -23,8 +24,9 @@ LANE = 1024
 Tx = namedtuple("Tx", "tid slow start updates")
 # What an event is to come to: at most one record, an outcome, what changes besides, and what is put out then.
 Plan = namedtuple("Plan", "outcome record change sends", defaults=(None, lambda: None, lambda: []))
-# An entry of a trail. A packet is (its number on its lane, kind, fields).
-Entry = namedtuple("Entry", "stamp event outcome kept wrote flight sends dropped")
+# An entry of a trail, with the format that is in force behind it: its records are spelled in it, and the one that brings the
+# second format is spelled alike in both. A packet is (its number on its lane, kind, fields).
+Entry = namedtuple("Entry", "stamp event outcome kept wrote flight sends dropped form")
 
 
 def meet(met, what, number, limit):
@@ -94,6 +96,8 @@ class Site:
         self.met, self.me, self.count, self.tolerated = met, me, scenario["sites"], scenario["f"]
         self.containers = {number: (kind, site) for number, kind, site in scenario["containers"]}
         self.capacity, self.areas = scenario.get("capacity", readings.CAPACITY), scenario.get("areas", 1)
+        # The format of the journal's header, which is that of a new one until the journal is loaded. That in force is `form`.
+        self.header = scenario.get("format", readings.format_of(self.count))
         self.peers = [k for k in range(self.count) if k != me]
         self.disk, self.journal = Disk(), None
         self.up, self.clock, self.gone = False, 0, {}
@@ -108,7 +112,7 @@ class Site:
     def forget(self):
         """Nothing is known; then what the records tell."""
         # The transactions by version, in the order in which they came, and the numbers of the own ones by their names.
-        self.log, self.numbers = {}, {}
+        self.log, self.numbers, self.form = {}, {}, self.header
         # Of each object what the log has of it, in its order: (site, number, update).
         self.rows = defaultdict(list)
         # The slow commits by number and by the names of their transactions, and those of which a Tick may speak.
@@ -162,6 +166,8 @@ class Site:
             self.locks.pop((self.me, fields[0]), None)
         elif kind == MARKS:
             self.floors = tuple(fields)
+        elif kind == FORMAT:
+            self.form = 2
 
     def keep(self, site, number, tx):
         self.log[site, number] = tx
@@ -231,7 +237,7 @@ class Site:
         out = [send for send in sends if self.finds_place(*send)]
         for to, packet in out:
             self.put_out[to].append((stamp, packet))
-        self.entries.append(Entry(stamp, event, outcome, kept, wrote, flight, out, len(sends) - len(out)))
+        self.entries.append(Entry(stamp, event, outcome, kept, wrote, flight, out, len(sends) - len(out), self.form))
 
     def finds_place(self, to, packet):
         """Whether a packet finds a place on its lane, which it takes then."""
@@ -250,7 +256,7 @@ class Site:
         """Journals the record of a plan, and then carries it out. Gives the outcome."""
         if plan.record:
             try:
-                self.journal.append(record_of(plan.record))
+                self.journal.append(record_of(plan.record, self.form))
             except Full as found:
                 self.meet_full()
                 outcome = full(found) if full else f"full:{found.need}:{found.left}"
@@ -289,7 +295,8 @@ class Site:
         self.enter(self.clock + 1, "stop", "taken" if was else "down")
 
     def load(self):
-        self.journal = Journal(self.disk, self.capacity, self.areas, self.count)
+        self.journal = Journal(self.disk, self.capacity, self.areas, self.count, self.header)
+        self.header = self.journal.form
 
     def pack(self):
         """Packs the journal where it has two areas. A fault leaves the content as it is, so no record is in flight then."""
@@ -327,7 +334,7 @@ class Site:
             return self.enter(stamp, "restart", "failed", kept)
         boot = BOOT, self.epoch + 1
         try:
-            self.journal.append(record_of(boot))
+            self.journal.append(record_of(boot, self.form))
         except Failed:
             self.flight = boot
             return self.enter(stamp, "restart", "failed", kept, None, boot)
@@ -367,6 +374,13 @@ class Site:
         if not self.up:
             return self.enter(stamp, "tick", "down")
         return self.enter(stamp, "tick", "passed", sends=[(k, packet) for k in self.peers for packet in self.said_again(k)])
+
+    def upgrade(self):
+        stamp = self.clock + 1
+        if not self.up:
+            return self.enter(stamp, "upgrade", "down")
+        plan = Plan("taken", (FORMAT,)) if self.form == 1 else Plan("passed")
+        return self.carry_out(plan, stamp, "upgrade")
 
     def said_again(self, k):
         last = min(self.own(), self.acked[k] + WINDOW)
@@ -638,7 +652,7 @@ def site_line(site):
 
 
 def trace_line(site, entry):
-    records = [record_of(record).hex() if record else "-" for record in (entry.kept, entry.wrote, entry.flight)]
+    records = [record_of(record, entry.form).hex() if record else "-" for record in (entry.kept, entry.wrote, entry.flight)]
     sends = ",".join(f"{to}:{PACKETS[packet[0] - 1]}" for to, packet in entry.sends) or "-"
     return f"e {entry.stamp} {site} {entry.event} {entry.outcome} {' '.join(records)} {sends} {entry.dropped}"
 

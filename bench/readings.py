@@ -11,20 +11,20 @@ import unicodedata
 import journals
 
 MOST_BYTES, MOST_DEPTH = 16_777_216, 127
-MOST_SITES, MOST_CONTAINERS, MOST_CLIENTS = 8, 256, 1024
+MOST_SITES, MOST_CONTAINERS, MOST_CLIENTS = 16, 256, 1024
 LEAST_CAPACITY, CAPACITY, MOST_CAPACITY = 19, 16_777_216, 1_099_511_627_776
 MOST_ROOM, MOST_RATE, MOST_TICKS, MOST_THREADS = 100_000, 1000, 10_000, 32
 MOST_CALL, MOST_PACKET = 1_000_000, (1 << 32) - 1
 NEEDED = ("sites", "f", "containers", "clients", "steps")
-BESIDES = ("capacity", "areas", "room", "link", "ticks", "threads", "arms")
+BESIDES = ("capacity", "areas", "room", "format", "link", "ticks", "threads", "arms")
 RATES = ("lose", "repeat", "swap")
 
 TEXTS = {
     "long": f"the text: wants at most {MOST_BYTES} bytes",
     "json": "the text: wants JSON in UTF-8, an object outermost",
-    "keys": "the keys: wants sites, f, containers, clients and steps, and takes capacity, areas, room, link, ticks, threads "
-            "and arms besides",
-    "sites": "sites: wants a whole number from 1 to 8",
+    "keys": "the keys: wants sites, f, containers, clients and steps, and takes capacity, areas, room, format, link, ticks, "
+            "threads and arms besides",
+    "sites": "sites: wants a whole number from 1 to 16",
     "f": "f: wants a whole number below sites",
     "containers": 'container {}: wants [number, "regular" or "cset", site] in a list, numbers below 2^32 that rise, a site '
                   "below sites, at most 256",
@@ -33,6 +33,7 @@ TEXTS = {
     "capacity": "the capacity: wants a whole number from 19 to 1099511627776",
     "areas": f"the areas: wants 1 or 2, and 2 only where the capacity is at least {journals.LEAST_OF_TWO}",
     "room": "the room: wants a whole number from 0 to 100000",
+    "format": f"the format: wants 1 or 2, and 1 only where there are at most {journals.MOST_OF_FIRST} sites",
     "link": "the link: wants an object of just seed, a whole number below 2^64, and lose, repeat and swap, whole numbers "
             "from 0 to 1000",
     "ticks": "the ticks: wants a whole number from 0 to 10000",
@@ -46,6 +47,7 @@ PARTS = {
     "deliver": ["site", "from", "number"],
     "advance": ["site", "from"],
     "tick": ["site"],
+    "upgrade": ["site"],
     "stop": ["site"],
     "restart": ["site"],
     "pump": ["site"],
@@ -55,7 +57,7 @@ PARTS = {
 STEP_TEXTS = {
     "steps": "the value of steps: wants a list",
     "list": "its value: wants a list",
-    "word": 'its word: wants "call", "deliver", "advance", "tick", "stop", "restart", "pump" or "arm"',
+    "word": 'its word: wants "call", "deliver", "advance", "tick", "upgrade", "stop", "restart", "pump" or "arm"',
     "length": "its length: wants just {}",
     "client": "its client: wants a whole number below {}, the number of clients",
     "site": "its site: wants a whole number below {}, the number of sites",
@@ -242,6 +244,15 @@ def are_areas(value, capacity):
     return is_whole(value, 1, 3) and (value == 1 or capacity >= journals.LEAST_OF_TWO)
 
 
+def format_of(sites):
+    """The format of a new journal, of so many sites, where a scenario tells none."""
+    return 1 if sites <= journals.MOST_OF_FIRST else 2
+
+
+def is_format(value, sites):
+    return is_whole(value, format_of(sites), 3)
+
+
 def is_link(value):
     return (type(value) is dict and set(value) == {"seed", *RATES} and is_whole(value["seed"], 0, 1 << 64)
             and all(is_whole(value[rate], 0, MOST_RATE + 1) for rate in RATES))
@@ -354,6 +365,8 @@ def check(value):
         refuse("areas")
     if "room" in value and not is_whole(value["room"], 0, MOST_ROOM + 1):
         refuse("room")
+    if "format" in value and not is_format(value["format"], sites):
+        refuse("format")
     if "link" in value and not is_link(value["link"]):
         refuse("link")
     if "ticks" in value and not is_whole(value["ticks"], 0, MOST_TICKS + 1):

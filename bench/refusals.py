@@ -284,6 +284,9 @@ class Wanting:
     def tick(self):
         return self.want(self.clock + 1, "tick") if self.up and self.is_wanted() else super().tick()
 
+    def upgrade(self):
+        return self.want(self.clock + 1, "upgrade") if self.up and self.is_wanted() else super().upgrade()
+
     def restart(self):
         if self.up or not self.is_wanted():
             return super().restart()
@@ -459,6 +462,7 @@ def scenarios(lasting):
         "a late PREPARE": Played(rows.a_prepare_comes_late().made),
         "locks outlive a stop": Played(example("locks_outlive_a_stop")),
         "packed on restart": Played(example("packed_on_restart")),
+        "upgraded in place": Played(example("upgraded_in_place")),
         "a commit is found": Played(rows.a_stop_at_the_gate(1, 3).made),
         "a slow commit over files": OverFiles(example("slow_commit")),
         f"the calls of a load of {LOAD[1]}": Played(loads.made(*LOAD)),

@@ -18,7 +18,7 @@ import readings
 from spelled import *
 
 REGULAR_AT_0, REGULAR_AT_1, SET_AT_0 = [1, "regular", 0], [2, "regular", 1], [3, "cset", 0]
-RECORDS = [None, "Boot", "Own", "Got", "Seen", "Prepared", "Released", "SlowBegin", "SlowEnd", "Marks"]
+RECORDS = [None, "Boot", "Own", "Got", "Seen", "Prepared", "Released", "SlowBegin", "SlowEnd", "Marks", "Format"]
 
 
 def level(*tid):
@@ -77,11 +77,11 @@ def packet_told(packet):
 
 class Row:
     """A run with the clients that call in it, one at each site that is named, and the steps with what comes of them. `made`
-    is the scenario of what was done so far."""
+    is the scenario of what was done so far, with further keys where there are some."""
 
-    def __init__(self, sites, tolerated, containers, at=(), arms=()):
+    def __init__(self, sites, tolerated, containers, at=(), arms=(), **more):
         scenario = {"sites": sites, "f": tolerated, "containers": containers, "clients": [[site, ""] for site in at],
-                    "arms": list(arms)}
+                    "arms": list(arms), **more}
         self.run, self.wrong = model.Run(scenario, Counter()), []
         self.made = {**scenario, "clients": [[site, ""] for site in at], "steps": []}
 
@@ -104,6 +104,11 @@ class Row:
         self.made["steps"].append([word, site, *rest])
         self.run.step(word, site, *rest)
         self.check((word, site, *rest), self.run.sites[site].entries[-1], to, record, sends)
+
+    def arm(self, *arm):
+        """The disk of a site is armed, which is no entry."""
+        self.made["steps"].append(["arm", *arm])
+        self.run.step("arm", *arm)
 
     def nothing(self, to, site, number):
         """The step hands over a packet that was never put out."""
@@ -451,6 +456,86 @@ def a_fold_keeps_snapshots():
     return row
 
 
+def committed_once(capacity, reply, record="Own", **more):
+    """One site whose client writes one object, over a journal of this capacity."""
+    row = Row(1, 0, [REGULAR_AT_0], (0,), capacity=capacity, **more)
+    row.begins(0, (0, 1, 1), ((1, 5), b"hello"))
+    row.call(0, COMMIT_IT, reply, record)
+    return row
+
+
+def an_upgrade(capacity, outcome, record):
+    row = committed_once(capacity, committed(0, 1))
+    row.step("upgrade", 0, to=outcome, record=record)
+    return row
+
+
+def a_restart_of_an_upgraded_site(capacity, outcome, record):
+    row = an_upgrade(capacity, "taken", "Format")
+    row.step("upgrade", 0, to="passed")
+    row.step("stop", 0)
+    row.step("upgrade", 0, to="down")
+    row.step("restart", 0, to=outcome, record=record)
+    return row
+
+
+def an_upgrade_amid_a_slow_commit():
+    """Both sites are upgraded between its beginning and its end, one after another: what they tell one another is the same."""
+    row = a_slow_commit_alone()
+    row.step("upgrade", 1, record="Format")
+    row.step("deliver", 0, 1, 1, record="Prepared", sends="1:vote 1 yes")
+    row.step("deliver", 1, 0, 1, record="Own", sends="0:propagate 1")
+    row.call(1, COMMIT_IT, committed(1, 1))
+    row.step("deliver", 0, 1, 2, record="Got", sends="1:ack 1")
+    row.step("upgrade", 0, record="Format")
+    row.step("deliver", 1, 0, 2, record="Marks", sends="0:dsmark 1")
+    row.step("deliver", 0, 1, 3)
+    row.step("advance", 0, 1, record="Seen", sends="1:visible 1")
+    for site in 0, 1:
+        row.step("stop", site)
+        row.step("restart", site, record="Boot")
+    row.calls(0, (START_IT, started(0, 2, 1)), (read((1, 5)), value(b"s")))
+    return row
+
+
+def a_stop_at_the_upgrade(nth, choice, outcome):
+    """The disk fails at a call of the upgrade's append. Behind the restart another upgrade says whether it was found."""
+    row = committed_once(300, committed(0, 1))
+    row.step("restart", 0, to="passed")
+    row.arm(0, nth, choice)
+    row.step("upgrade", 0, to="failed", record="Format")
+    row.step("upgrade", 0, to="down")
+    row.step("restart", 0, record="Boot")
+    row.step("upgrade", 0, to=outcome, record="Format" if outcome == "taken" else None)
+    row.call(0, START_IT, started(0, 2, 1))
+    return row
+
+
+def sixteen_sites():
+    """Of sixteen sites fifteen may be lost. A slow commit asks all of the others, and is durable once the last one has it."""
+    others = range(1, 16)
+    row = Row(16, 15, [[site, "regular", site] for site in range(16)], (0,))
+
+    def to_all(packet):
+        return ",".join(f"{k}:{packet} 1" for k in others)
+
+    row.begins(0, (0, 1, 1), *(((site, 1), b"a") for site in range(16)))
+    row.call(0, COMMIT_IT, deciding(0, 1, 1), "SlowBegin", to_all("prepare"))
+    for k in others:
+        row.step("deliver", k, 0, 1, record="Prepared", sends="0:vote 1 yes")
+    for k in others[:-1]:
+        row.step("deliver", 0, k, 1)
+    row.call(0, COMMIT_IT, deciding(0, 1, 1))
+    row.step("deliver", 0, 15, 1, record="Own", sends=to_all("propagate"))
+    row.call(0, COMMIT_IT, committed(0, 1))
+    for k in others:
+        row.call(0, level(0, 1, 1), is_level(3))
+        row.step("deliver", k, 0, 2, record="Got", sends="0:ack 1")
+        row.step("deliver", 0, k, 2, **({} if k < 15 else {"record": "Marks", "sends": to_all("dsmark")}))
+    row.call(0, level(0, 1, 1), is_level(4))
+    return row
+
+
 ROWS = {
     "a long fork": long_fork,
     "a set cancels out": a_set_cancels_out,
@@ -473,6 +558,16 @@ ROWS = {
     "three commits are under way at once": a_window_of_three,
     "a window is full": a_window_that_is_full,
     "a fold keeps snapshots": a_fold_keeps_snapshots,
+    "a journal has just place for an upgrade": lambda: an_upgrade(149, "taken", "Format"),
+    "a journal has no place for an upgrade": lambda: an_upgrade(148, "full:7:6", None),
+    "an upgraded site comes up again": lambda: a_restart_of_an_upgraded_site(159, "taken", "Boot"),
+    "an upgraded site has no place to come up": lambda: a_restart_of_an_upgraded_site(158, "full:10:9", None),
+    "a journal of the second format has just place": lambda: committed_once(87, committed(0, 1), format=2),
+    "a journal of the second format is full": lambda: committed_once(86, refusal(10, struct.pack(">QQ", 68, 67)), None, format=2),
+    "two sites are upgraded amid a slow commit": an_upgrade_amid_a_slow_commit,
+    "an upgrade at whose gate the disk fails is found": lambda: a_stop_at_the_upgrade(3, 1, "passed"),
+    "an upgrade at whose gate the disk fails is lost": lambda: a_stop_at_the_upgrade(3, 7, "taken"),
+    "a slow commit asks fifteen sites": sixteen_sites,
 }
 
 

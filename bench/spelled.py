@@ -8,7 +8,7 @@ STARTED, VALUE, DONE, SET, COUNT, COMMITTED, ABORTED, DECIDING, LEVEL_IS, ENDED,
 REFUSED = 0xE0
 PACKETS = ["propagate", "ack", "dsmark", "visible", "prepare", "vote", "release", "released"]
 PROPAGATE, ACK, DSMARK, VISIBLE, PREPARE, VOTE, RELEASE, RELEASED = range(1, 9)
-BOOT, OWN, GOT, SEEN, PREPARED, LET_GO, SLOW_BEGIN, SLOW_END, MARKS = range(1, 10)
+BOOT, OWN, GOT, SEEN, PREPARED, LET_GO, SLOW_BEGIN, SLOW_END, MARKS, FORMAT = range(1, 11)
 MODIFIED, LOCKED, ASKED, DEAD, LATER = range(1, 6)
 
 
@@ -33,8 +33,11 @@ def name_of(tid):
     return struct.pack(">BIQ", *tid)
 
 
-def vector_of(numbers):
-    return struct.pack(">8Q", *numbers, *[0] * (8 - len(numbers)))
+def vector_of(numbers, form):
+    """A vector, in the first format with a number for each of eight sites."""
+    if form == 1:
+        return struct.pack(">8Q", *numbers, *[0] * (8 - len(numbers)))
+    return struct.pack(f">B{len(numbers)}Q", len(numbers), *numbers)
 
 
 def update_of(update):
@@ -45,8 +48,8 @@ def update_of(update):
     return struct.pack(">BIQQ", 2 if operation == SET_ADD else 3, *oid, what)
 
 
-def transaction_of(tx):
-    head = name_of(tx.tid) + struct.pack(">Q", tx.slow) + vector_of(tx.start)
+def transaction_of(tx, form):
+    head = name_of(tx.tid) + struct.pack(">Q", tx.slow) + vector_of(tx.start, form)
     return head + struct.pack(">H", len(tx.updates)) + b"".join(map(update_of, tx.updates))
 
 
@@ -64,19 +67,21 @@ def conflict_of(conflict):
     return bytes([kind])
 
 
-def record_of(record):
-    """A record: its kind and its fields."""
+def record_of(record, form=1):
+    """A record, its kind and its fields, in the format that is in force at its place."""
     kind, *fields = record
     if kind == BOOT:
         return struct.pack(">BI", kind, *fields)
     if kind in (OWN, SLOW_BEGIN):
-        return struct.pack(">BQ", kind, fields[0]) + transaction_of(fields[1])
+        return struct.pack(">BQ", kind, fields[0]) + transaction_of(fields[1], form)
     if kind == GOT:
-        return struct.pack(">BBQ", kind, *fields[:2]) + transaction_of(fields[2])
+        return struct.pack(">BBQ", kind, *fields[:2]) + transaction_of(fields[2], form)
     if kind in (SEEN, LET_GO):
         return struct.pack(">BBQ", kind, *fields)
     if kind == PREPARED:
         return struct.pack(">BBQ", kind, *fields[:2]) + name_of(fields[2]) + objects_of(fields[3])
+    if kind == FORMAT:
+        return bytes([kind, 2])
     return bytes([kind]) + struct.pack(f">{len(fields)}Q", *fields)
 
 

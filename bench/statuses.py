@@ -1,10 +1,10 @@
 #!/usr/bin/env python3
 """Runs the program on wrong inputs, and compares how each run ends with what is wanted: its status, what it wrote on
 standard error and, where that can be read, on standard output; then over file disks, in folders of its own. Prints a line for
-each case, and ends with status 1 where one differs. With --model the plain model is run in its place, which is to end in the same ways, but for `run`, which
-it hasn't: its own name stands in front of what it says. Of wrong words only the status and the front of what is said are
-compared: `./walter` says how it is used, the program has the text of clap, and the model its own. With --program a part of
-that text is looked for too, and the texts of help and version are asked for.
+each case, and ends with status 1 where one differs. With --model the plain model is run in its place, which is to end in the same
+ways, but for `run`, which it hasn't: its own name stands in front of what it says. Of wrong words only the status and the front of
+what is said are compared: `./walter` says how it is used, the program has the text of clap, and the model its own. With --program a
+part of that text is looked for too, and the texts of help and version are asked for.
 """
 
 import argparse
@@ -56,6 +56,7 @@ STEPS = [
     ("length", '["deliver",0,1]', 'its length: wants just ["deliver", site, from, number]'),
     ("client", '["call",1]', "its client: wants a whole number below 1, the number of clients"),
     ("site", '["tick",2]', "its site: wants a whole number below 2, the number of sites"),
+    ("site of an upgrade", '["upgrade",2]', "its site: wants a whole number below 2, the number of sites"),
     ("from", '["advance",0,2]', "its from: wants a whole number below 2, the number of sites"),
     ("from, which is its site", '["deliver",1,1,1]', "its from: wants another one than its site"),
     ("number", '["deliver",1,0,0]', "its number: wants a whole number from 1 to 4294967295"),
@@ -73,7 +74,7 @@ CASES = [
     ("20,001 calls", ["load", "--seed", "7", "--calls", "20001"], "", None, 1, WORDS, ""),
     ("a seed of 2^64", ["load", "--seed", "18446744073709551616", "--calls", "5"], "", None, 1, WORDS, ""),
     ("an open bracket", ["play"], "[", None, 2, NO_READING + "the text is no JSON: line 1, column 1", ""),
-    ("nine sites", ["play"], scenario(sites="9"), None, 2, NO_READING + SITES, ""),
+    ("seventeen sites", ["play"], scenario(sites="17"), None, 2, NO_READING + SITES, ""),
     ("another key", ["play"], scenario(more=',"speed":1'), None, 2, NO_READING + 'key "speed": a scenario has none', ""),
     ("odd hex", ["play"], scenario(clients='[0,"0"]'), None, 2, NO_READING + readings.TEXTS["clients"].format(0), ""),
     ("no keys", ["play"], "{}", None, 2, NO_READING + readings.TEXTS["keys"], ""),
@@ -86,6 +87,8 @@ CASES = [
     ("two areas in 46 bytes", ["play"], scenario(more=',"areas":2,"capacity":46'), None, 2,
      NO_READING + readings.TEXTS["areas"], ""),
     ("a room of 100,001", ["play"], scenario(more=',"room":100001'), None, 2, NO_READING + readings.TEXTS["room"], ""),
+    ("a third format", ["play"], scenario(more=',"format":3'), None, 2, NO_READING + readings.TEXTS["format"], ""),
+    ("the first format of nine sites", ["play"], scenario("9", more=',"format":1'), None, 2, NO_READING + readings.TEXTS["format"], ""),
     ("a link without a seed", ["play"], scenario(more=',"link":{"lose":0,"repeat":0,"swap":0}'), None, 2,
      NO_READING + readings.TEXTS["link"], ""),
     ("10,001 ticks", ["play"], scenario(more=',"ticks":10001'), None, 2, NO_READING + readings.TEXTS["ticks"], ""),
@@ -113,8 +116,10 @@ CASES_OF_RUN += [
 ]
 
 # What may be done to the one file of a folder before the stored run's second play over it, and what is then said of that file.
+USED = "its journal has records (at place 8)"
 BYTES = {
-    "records": (None, "its journal has records (at place 8)"),
+    "records": (None, USED),
+    "records of the second format": (b"WALTERJ2\1" + b"\0\0\0\5" + b"\1\0\0\0\1" + b"\0", USED),
     "no journal": (b"WALTERJ1", "it has no journal (at place 0)"),
     "a damaged journal": (b"WALTERJ1\1" + b"\0\0\0\5" + b"\1",
                           "its journal is damaged, since it claims a length of 5 (at place 8)"),
@@ -185,18 +190,26 @@ def differing(play, cases, at_once=1):
     return differ
 
 
+def folder_with(top, name, content):
+    """A folder, whose one file has these bytes, or with no file."""
+    folder = os.path.join(top, name.replace(" ", "_"))
+    os.mkdir(folder)
+    if content is not None:
+        with open(os.path.join(folder, "site-0.journal"), "wb") as file:
+            file.write(content)
+    return folder
+
+
 def cases_over_files(top):
-    """The cases of the stored run over file disks, in folders that are made here."""
+    """The cases of the stored run over file disks, in folders that are made here; and of nine sites over a file of the first format."""
     for name, (content, said) in BYTES.items():
-        folder = os.path.join(top, name.replace(" ", "_"))
-        os.mkdir(folder)
+        folder = folder_with(top, name, content)
         words = ["play", "--disks", folder]
         if content is None:
             yield ("an empty folder", words, RUN, None, 0, "", REPORT)
-        else:
-            with open(os.path.join(folder, "site-0.journal"), "wb") as file:
-                file.write(content)
         yield (f"a file that has {name}", words, RUN, None, 7, UNFIT.format(folder, said), "")
+    folder, said = folder_with(top, "nine sites", b"WALTERJ1\0"), BYTES["no journal"][1]
+    yield ("nine sites over the first format", ["play", "--disks", folder], scenario("9"), None, 7, UNFIT.format(folder, said), "")
     for name, folder, said in [("no folder", os.path.join(top, "none"), NO_FOLDER), ("a file for a folder", os.devnull, NO_FOLDER),
                                ("a folder for a file", os.path.join(top, "taken"), FAILED)]:
         if said is FAILED:

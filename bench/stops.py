@@ -4,9 +4,11 @@
     python3 bench/stops.py --program PATH
     python3 bench/stops.py --model
 
-Four scenarios are played: the slow commit of examples/, behind which each site restarts; the same with stops and restarts of both
-sites, over journals of one area and of two, whose packs are stopped too; and the made scenario of a load of 40 calls, whose sites
-come up again by their pumps. For each site and each choice of 0, 1 and 7 the disk is armed at its first call behind the opening,
+Six scenarios are played: the slow commit of examples/, behind which each site restarts; the same with stops and restarts of both
+sites, over journals of one area and of two, whose packs are stopped too; the site of examples/ that is upgraded amid its commits,
+with stops and restarts too, over one area and over two: where its upgrade is stopped, a restart finds the record Format or doesn't,
+and what comes behind is in the format in force then; and the made scenario of a load of 40 calls, whose sites come up again by
+their pumps. For each site and each choice of 0, 1 and 7 the disk is armed at its first call behind the opening,
 then at the second, and so on until an arm isn't reached. Each run is played by the program and by the model: the status is 0, and
 report and trace are the same. With --model the model plays alone.
 
@@ -28,18 +30,29 @@ LOAD = 7, 40
 CAPACITY_OF_TWO = 4096
 
 
+def restarts(sites):
+    """Each of so many sites comes up behind a stop, and behind a second one; where the one restart fails, the next one doesn't."""
+    return [[word, site] for site in range(sites) for word in ("stop", "restart", "restart") * 2]
+
+
 def slow_commit(behind, **more):
     """The slow commit of examples/, with steps behind it."""
     made = example("slow_commit", **more)
     return {**made, "steps": [*made["steps"], *behind]}
 
 
-# Each site comes up behind a stop, and behind a second one; where the one restart fails, the next one doesn't.
-RESTARTS = [[word, site] for site in (0, 1) for word in ("stop", "restart", "restart") * 2]
+def upgraded(**more):
+    """The upgrade of examples/, with restarts of all sites behind it."""
+    made = example("upgraded_in_place", **more)
+    return {**made, "steps": [*made["steps"], *restarts(made["sites"])]}
+
+
 SCENARIOS = {
     "a slow commit": lambda: slow_commit([["restart", 0], ["restart", 1]]),
-    "a slow commit and restarts": lambda: slow_commit(RESTARTS),
-    "a slow commit and restarts over two areas": lambda: slow_commit(RESTARTS, areas=2, capacity=CAPACITY_OF_TWO),
+    "a slow commit and restarts": lambda: slow_commit(restarts(2)),
+    "a slow commit and restarts over two areas": lambda: slow_commit(restarts(2), areas=2, capacity=CAPACITY_OF_TWO),
+    "an upgrade and restarts": upgraded,
+    "an upgrade and restarts over two areas": lambda: upgraded(areas=2, capacity=CAPACITY_OF_TWO),
     f"the calls of a load of {LOAD[1]}": lambda: loads.made(*LOAD),
 }
 

@@ -1,12 +1,13 @@
 #!/usr/bin/env python3
 """Has the program run random scenarios by threads, and checks the report and the trace of each by threaded.py.
 
-The scenarios go by their seeds, in the kinds of `KINDS`: of one to eight sites and of 1 to 32 threads, with links that lose,
-repeat and swap, with disks that are armed and with short journals, of one area and of two, with few clients for many threads
-and with none. Where the program refuses the key `areas` none has it. One of a hundred is to spend a trail. Each is run with its
-threads, and with one. Says how often each reply, outcome, record and packet was met in these runs, and what the link chose, and
-which of these were not met; and how many runs were accepted. Ends with status 1 where one isn't: it has a line with its seed
-and what is wrong. A run that takes two minutes is taken for one that never ends.
+The scenarios go by their seeds, in the kinds of `KINDS`: of one to eight sites, some of up to sixteen, and of 1 to 32 threads, with
+links that lose, repeat and swap, with disks that are armed and with short journals, of one area and of two and of either format,
+with few clients for many threads and with none. Where the program refuses the key `areas` none has it; nor `format`, or more than
+eight sites, where it refuses that. One of a hundred is to spend a trail. Each is run with its threads, and with one. Says how often
+each reply, outcome, record and packet was met in these runs, and what the link chose, and which of these were not met; and how many
+runs were accepted. Ends with status 1 where one isn't: it has a line with its seed and what is wrong. A run that takes two minutes
+is taken for one that never ends.
 
 With --kilobytes a run has no more address space than these, so that threads are hard to make, or memory is wanting: it is to
 end all the same, with a right report or with status 5. From 4,000 on there is room for the program, and from 100,000 on for
@@ -22,6 +23,8 @@ import sys
 from collections import Counter, namedtuple
 
 import compare
+import journals
+import readings
 import threaded
 from generator import CHOICES, COMMIT, START, areas_of, frames, of_several, sent
 from spelled import PACKETS, write
@@ -58,6 +61,8 @@ NEVER = {"stop taken", "stop down", "restart passed", "restart failed", "advance
 KINDS_MET = (compare.SITES, compare.REPLIES, compare.OUTCOMES, compare.RECORDED, compare.VOTES, compare.RULES,
              compare.DELIVERIES, compare.LINKS)
 ALL = [kind for kinds in KINDS_MET for kind in kinds if kind not in NEVER]
+# How many sites there may be besides where there are formats. No threaded run has an upgrade.
+MORE_SITES = [kind for kind in compare.FORMATS if kind.startswith("sites ")]
 
 
 # The scenarios
@@ -106,12 +111,24 @@ def spent(rng, is_down):
             "capacity": capacity, "threads": rng.choice([2, 8]), "ticks": 5, "arms": arms, "steps": []}
 
 
-def scenario(seed, areas=True):
-    """The scenario of a seed; where no areas are asked for none has the key `areas`."""
+def with_format(seed, made):
+    """The scenario with journals of either format; in one of eight seeds one of several sites has further ones, up to sixteen. It
+    is drawn apart, so that all else is the same whether programs take the key or not."""
+    rng = random.Random(f"format {seed}")
+    if made["sites"] > 1 and rng.random() < 0.125:
+        made = {**made, "sites": rng.randint(journals.MOST_OF_FIRST + 1, readings.MOST_SITES)}
+    form = rng.choice([None, *range(readings.format_of(made["sites"]), 3)])
+    return made if form is None else {**made, "format": form}
+
+
+def scenario(seed, areas=True, formats=True):
+    """The scenario of a seed; where no areas are asked for none has the key `areas`, and where no formats are, none has the key
+    `format` or more than eight sites."""
     rng = random.Random(seed)
-    if (seed + 1) % SPENT:
-        return any_scenario(rng, KINDS[seed % len(KINDS)], areas)
-    return spent(rng, seed // SPENT % 2 == 0)
+    if (seed + 1) % SPENT == 0:
+        return spent(rng, seed // SPENT % 2 == 0)
+    made = any_scenario(rng, KINDS[seed % len(KINDS)], areas)
+    return with_format(seed, made) if formats else made
 
 
 # The runs
@@ -145,9 +162,8 @@ def wrong_of(program, made, met, kilobytes=None):
     return None
 
 
-def accepted(program, seed, areas, met, kilobytes=None):
-    """How many runs of a scenario are accepted: with its threads, and with one. The others are told."""
-    made = scenario(seed, areas)
+def accepted(program, made, seed, met, kilobytes=None):
+    """How many runs of a seed's scenario are accepted: with its threads, and with one. The others are told."""
     count = 0
     for threads in made["threads"], 1:
         wrong = wrong_of(program, {**made, "threads": threads}, met, kilobytes)
@@ -171,13 +187,15 @@ def main():
         print(json.dumps(scenario(words.seed)))
         return
     program, met = words.program or compare.built(), Counter()
-    areas = compare.knows(program, "areas")
-    if not areas:
-        print(compare.NO_KEY.format("areas"))
+    areas, formats = (compare.knows(program, key) for key in ("areas", "format"))
+    for key, known in ("areas", areas), ("format", formats):
+        if not known:
+            print(compare.NO_KEY.format(key))
     seeds = range(words.seed, words.seed + words.scenarios)
-    count = sum(accepted(program, seed, areas, met, words.kilobytes) for seed in seeds)
-    print("met: " + "; ".join(f"{kind}: {met[kind]:,}" for kind in ALL if met[kind]))
-    print("not met: " + ("; ".join(kind for kind in ALL if not met[kind]) or "none"))
+    count = sum(accepted(program, scenario(seed, areas, formats), seed, met, words.kilobytes) for seed in seeds)
+    counted = ALL + (MORE_SITES if formats else [])
+    print("met: " + "; ".join(f"{kind}: {met[kind]:,}" for kind in counted if met[kind]))
+    print("not met: " + ("; ".join(kind for kind in counted if not met[kind]) or "none"))
     print(f"{words.scenarios:,} scenarios from seed {words.seed}, each with its threads and with one: {count:,} of "
           f"{2 * words.scenarios:,} runs accepted, with {met['entries']:,} entries and {met['spent']:,} spent trails"
           + (f"; {met['want of memory']:,} were without memory" if words.kilobytes else ""))

@@ -72,18 +72,20 @@ class Kind:
 
     def __init__(self, asked, rng):
         self.asked, self.rng, self.met = asked, rng, Counter()
+        # Between the numbers of one container and of the next, at one site.
+        self.apart = 10 if asked.sites <= 10 else 100
 
     def containers(self):
-        """Their numbers are tens, with the site behind: none could be taken for a site."""
-        found = [[10 * (at + 1) + site, "cset" if name in self.SETS else "regular", site]
+        """Their numbers are tens, or hundreds, with the site behind: none could be taken for a site."""
+        found = [[self.apart * (at + 1) + site, "cset" if name in self.SETS else "regular", site]
                  for at, name in enumerate(self.CONTAINERS) for site in range(self.asked.sites)]
         return sorted(found)
 
     def object(self, name, site, local):
-        return 10 * (self.CONTAINERS.index(name) + 1) + site, local
+        return self.apart * (self.CONTAINERS.index(name) + 1) + site, local
 
     def name_of(self, oid):
-        return self.CONTAINERS[oid[0] // 10 - 1]
+        return self.CONTAINERS[oid[0] // self.apart - 1]
 
     def of_few(self, count):
         """One of so many, the first ones more often."""
@@ -137,9 +139,8 @@ class Social(Kind):
             yield read(self.object("walls", there, other))
             yield read_set(self.object("friends", there, other))
 
-    @staticmethod
-    def number(site, person):
-        return 10 * person + site
+    def number(self, site, person):
+        return self.apart * person + site
 
 
 class Shop(Kind):

@@ -6,6 +6,7 @@ the writers of each object by which no cycle is there that the model forbids. `p
 transaction wrote that it knows of; who writes last is nobody's business there.
 """
 
+import heapq
 from collections import defaultdict, deque, namedtuple
 
 from dependencies import INITIAL, Edge, Facts, shown
@@ -43,6 +44,14 @@ class Graph:
     def components(self, follow):
         """The component of each transaction, by the edges that are followed: those with one number lie in cycles together."""
         return components(self.count, lambda at: [edge.other for edge in follow(at)])
+
+    def is_acyclic(self, follow):
+        """Whether there is no cycle by the edges that are followed."""
+        return is_acyclic(self.count, lambda at: [edge.other for edge in follow(at)])
+
+    def has_order(self):
+        """Whether the edges `before` have no cycle: some order has each transaction behind those before it."""
+        return self.is_acyclic(self.before.__getitem__)
 
 
 def components(count, following):
@@ -130,12 +139,6 @@ class Cycles:
     def by_all(self, at):
         return [(edge, edge.other) for edge in self.before[at] + self.missed[at]]
 
-    def in_turn(self, state):
-        """The states behind one, where no edge `missed` may follow another."""
-        at, was_missed = state
-        found = [(edge, (edge.other, False)) for edge in self.before[at]]
-        return found if was_missed else found + [(edge, (edge.other, True)) for edge in self.missed[at]]
-
     def without_missed(self):
         """A cycle of edges `before` alone."""
         found, same = None, self.graph.components(lambda at: self.before[at])
@@ -162,7 +165,7 @@ class Cycles:
         found = None
         for edges in self.missed:
             for edge in edges:
-                way = self.shortest((edge.other, True), (edge.one, False), self.in_turn, found and len(found) - 1)
+                way = self.shortest(2 * edge.other + 1, 2 * edge.one, lambda state: in_turn(self, state), found and len(found) - 1)
                 found = least([found, way and [edge, *way]])
         return found
 
@@ -212,13 +215,13 @@ def anomalies(graph, model):
 
 def fits(graph, model):
     """Whether a graph has no cycle that a model forbids. This is much faster than to look for the smallest one."""
-    if is_acyclic(graph.count, lambda at: [edge.other for edge in graph.edges(at)]):
+    if graph.is_acyclic(graph.edges):
         return True
     if model == "serializable":
         return False
     if model == "si":
-        return is_acyclic(2 * graph.count, lambda state: after_in_turn(graph, state))
-    if not is_acyclic(graph.count, lambda at: [edge.other for edge in graph.before[at]]):
+        return is_acyclic(2 * graph.count, lambda state: [after for _, after in in_turn(graph, state)])
+    if not graph.has_order():
         return False
     known = knowing(graph)
     return not any(known[edge.one] >> edge.other & 1 for at in range(graph.count) for edge in graph.missed[at])
@@ -228,26 +231,38 @@ def is_acyclic(count, following):
     return len(set(components(count, following))) == count
 
 
-def after_in_turn(graph, state):
-    """The states behind one, where no edge `missed` may follow another: an odd state was come to by such a one."""
+def in_turn(part, state):
+    """The edges from a state of a graph or of a part of it, each with the state behind it, where no edge `missed` may follow another.
+    An even state is a transaction twice; an odd one is the transaction come to by such an edge."""
     at, was_missed = divmod(state, 2)
-    return [2 * edge.other for edge in graph.before[at]] + ([] if was_missed else [2 * edge.other + 1 for edge in graph.missed[at]])
+    found = [(edge, 2 * edge.other) for edge in part.before[at]]
+    return found if was_missed else found + [(edge, 2 * edge.other + 1) for edge in part.missed[at]]
+
+
+def in_line(graph, rank):
+    """The transactions, each behind those before it by edges `before`, which have no cycle: of those that may come next always the
+    one of the least rank."""
+    waits = [0] * graph.count
+    for edges in graph.before:
+        for edge in edges:
+            waits[edge.other] += 1
+    ready = [(rank[at], at) for at in range(graph.count) if not waits[at]]
+    heapq.heapify(ready)
+    while ready:
+        at = heapq.heappop(ready)[1]
+        yield at
+        for edge in graph.before[at]:
+            waits[edge.other] -= 1
+            if not waits[edge.other]:
+                heapq.heappush(ready, (rank[edge.other], edge.other))
 
 
 def knowing(graph):
     """Of each transaction those that come before it by edges `before`, as bits. These edges have no cycle."""
-    waits, known = [0] * graph.count, [0] * graph.count
-    for at in range(graph.count):
-        for edge in graph.before[at]:
-            waits[edge.other] += 1
-    ready = [at for at in range(graph.count) if not waits[at]]
-    while ready:
-        at = ready.pop()
+    known = [0] * graph.count
+    for at in in_line(graph, range(graph.count)):
         for edge in graph.before[at]:
             known[edge.other] |= known[at] | 1 << at
-            waits[edge.other] -= 1
-            if not waits[edge.other]:
-                ready.append(edge.other)
     return known
 
 
@@ -285,8 +300,9 @@ class Writing:
         # Behind these, so that a cycle tells a read rather than that two transactions are of one client.
         yield from facts.edges
 
-    def graph(self):
-        return Graph(len(self.facts.committed), self.edges())
+    def graph(self, *kinds):
+        """The graph of the edges of these kinds, or of all."""
+        return Graph(len(self.facts.committed), (edge for edge in self.edges() if not kinds or edge.kind in kinds))
 
     def take_own(self):
         """Who reads an object and writes it comes behind whom it read."""
@@ -329,41 +345,21 @@ class Writing:
         return news
 
 
-def settled(writing, with_updates):
-    """Goes on until nothing more is known of who wrote first. None where edges `before` have a cycle: then the graph tells it."""
-    news = True
-    while news:
+def settled(writing):
+    """The graph when nothing more is known of who wrote first, or when its edges `before` have a cycle; and whether they have none."""
+    while True:
         graph = writing.graph()
-        if not is_acyclic(graph.count, lambda at: [edge.other for edge in graph.before[at]]):
-            return None
+        if not graph.has_order():
+            return graph, False
         known = knowing(graph)
-        news = writing.take_known(known) | writing.take_read(known)
-        news |= with_updates and writing.take_updates()
-    return writing
+        if not (writing.take_known(known) | writing.take_read(known) | writing.take_updates()):
+            return graph, True
 
 
 def in_rank(facts, graph=None):
     """An order of all writers: by when they ended, and behind whom the graph has before them."""
-    count = len(facts.committed)
     rank = [one.rank or (1 << 62, at) for at, one in enumerate(facts.committed)]
-    if graph is None:
-        return sorted(range(count), key=lambda at: rank[at])
-    import heapq
-
-    waits = [0] * count
-    for at in range(count):
-        for edge in graph.before[at]:
-            waits[edge.other] += 1
-    ready, order = [(rank[at], at) for at in range(count) if not waits[at]], []
-    heapq.heapify(ready)
-    while ready:
-        at = heapq.heappop(ready)[1]
-        order.append(at)
-        for edge in graph.before[at]:
-            waits[edge.other] -= 1
-            if not waits[edge.other]:
-                heapq.heappush(ready, (rank[edge.other], edge.other))
-    return order
+    return sorted(range(len(rank)), key=rank.__getitem__) if graph is None else list(in_line(graph, rank))
 
 
 def in_order(facts, order):
@@ -438,7 +434,7 @@ def by_what_is_known(facts, model):
     first = writing.graph()
     if len(facts.committed) > MOST_KNOWING:
         return verdict_of(first, model)
-    if is_acyclic(first.count, lambda at: [edge.other for edge in first.before[at]]):
+    if first.has_order():
         writing.take_known(knowing(first))
         first = writing.graph()
     found = anomalies(first, model)
@@ -460,10 +456,9 @@ def tried(writing, model, tries):
     """Tries the orders of writers: None where one fits, else the anomalies of the first that was tried, and whether all were."""
     facts = writing.facts
     tries[0] -= 1
-    done = settled(writing, True)
-    graph = writing.graph()
+    graph, has_order = settled(writing)
     found = anomalies(graph, model)
-    if done is None or found:
+    if found or not has_order:
         return found, True
     taken = in_order(facts, in_rank(facts, graph))
     if fits(taken, model):
@@ -495,18 +490,18 @@ def open_pair(writing):
 
 def causal(facts):
     """A transaction knows of those before it by sessions and reads. What it misses of their writes breaks causality."""
-    knows = Graph(len(facts.committed), [edge for edge in Writing(facts).edges() if edge.kind in ("session", "read")])
+    writing = Writing(facts)
+    knows = writing.graph("session", "read")
     whole = Cycles(knows).without_missed()
     if whole:
         return Verdict(False, [Anomaly("causality broken", tuple(whole))])
     known = knowing(knows)
-    writing = Writing(facts)
     writing.take_known(known)
-    found = Cycles(Graph(len(facts.committed), [edge for edge in writing.edges() if edge.kind != "wrote"])).with_one()
+    found = Cycles(writing.graph("session", "read", "missed")).with_one()
     if found:
         return Verdict(False, [Anomaly(name, tuple(cycle)) for name, cycle in found.items()])
     writing.take_read(known)
-    whole = Cycles(Graph(len(facts.committed), [edge for edge in writing.edges() if edge.kind != "missed"])).without_missed()
+    whole = Cycles(writing.graph("session", "read", "wrote")).without_missed()
     return Verdict(not whole, [Anomaly(name_of_none(whole), tuple(whole))] if whole else [])
 
 

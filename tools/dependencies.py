@@ -6,6 +6,8 @@ which two transactions wrote one object is told by no history, and isn't made up
 
 from collections import defaultdict, namedtuple
 
+import scripts
+
 # An edge says that one transaction comes before another: `session`, both are of one client; `read`, the other read what it wrote;
 # `missed`, it read an object and not what the other wrote there; `wrote`, it wrote an object before the other did. `why` tells of
 # a `wrote` what it is known by.
@@ -193,7 +195,5 @@ def shown(value):
     if value is None:
         return "no value"
     if isinstance(value, bytes):
-        import scripts
-
         return scripts.words_of_value(value)
     return f'"{value}"' if isinstance(value, str) else str(value)

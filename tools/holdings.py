@@ -76,11 +76,12 @@ class Watched(runs.Run):
         waits = [words.version((one, number)) for one, number, _ in site.log if number > site.committed[one]]
         told = [
             ("stands", "up" if self.up[me] else "down" + flight),
+            ("journals", "in the second format, since it was upgraded" if site.is_upgraded else None),
             ("committed", last_of(list(map(words.version, holding.commits)), MOST_COMMITS)),
             ("received, not committed", last_of(waits, MOST_COMMITS) if waits else None),
             ("holds", last_of(holding.objects(), MOST_OBJECTS)),
             ("marks", f"durable {site.durable()}, visible {self.visible(me)}" if site.committed[me] else None),
-            ("peers", "; ".join(self.peer(site, peer) for peer in self.peers(me)) if self.up[me] else None),
+            ("peers", "; ".join(self.said_by_peers(me)) if self.up[me] else None),
             ("locks", ", ".join(f"{words.objects(lock.objects)} for {words.name(lock.name)}" for lock in site.locks.values())),
             ("slow commits", "; ".join(filter(None, (self.slow(*one) for one in site.slows.items())))),
             ("clients", "; ".join(self.client(one) for one in self.sessions.open.values()
@@ -95,10 +96,14 @@ class Watched(runs.Run):
     def peers(self, me):
         return [peer for peer in range(len(self.sites)) if peer != me]
 
-    def peer(self, site, peer):
-        """How far a peer has come with this site's commits, and with its own, as it has said."""
-        return (f"{peer} has said: received {site.acked[peer]}, committed {site.seen_by[peer]}, "
-                f"durable there {site.durable_at[peer]}")
+    def said_by_peers(self, me):
+        """How far peers have come with this site's commits, and with their own, as they have said: who has said the same together."""
+        site, by = self.sites[me], {}
+        for peer in self.peers(me):
+            by.setdefault((site.acked[peer], site.seen_by[peer], site.durable_at[peer]), []).append(str(peer))
+        for (received, committed, durable), peers in by.items():
+            have = "has" if len(peers) == 1 else "have"
+            yield f"{', '.join(peers)} {have} said: received {received}, committed {committed}, durable there {durable}"
 
     def slow(self, number, slow):
         """A slow commit that is undecided, or that ended and isn't confirmed everywhere."""

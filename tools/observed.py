@@ -117,13 +117,12 @@ def of_edn(text):
                 raise edn.Wrong(place, f"an end of process {process}'s transaction before it invokes another")
             open_at[process] = Transaction(f"the transaction {one.get('index', len(found))} of process {process}", process)
             found.append(open_at[process])
+            end(open_at[process], place, "info", one)
         elif process not in open_at:
             raise edn.Wrong(place, f"an invoke of process {process} before")
         else:
             open_at[process].rank = (0, place)
             end(open_at.pop(process), place, kind, one)
-            continue
-        end(open_at[process], place, "info", one)
     return found
 
 

@@ -17,6 +17,8 @@ import words
 MOST = 500
 ROW, FONT, LETTER = 22, 12, 7.4
 MARGIN, STAMPS, GAP, BAR = 14, 56, 72, 7
+# From more columns than so many on they stand closer, so that their words aren't too far from them.
+MOST_WIDE, NARROW_GAP = 8, 54
 LONGEST, BEND = 110, 14
 # How long a packet's line is that no site took, and how many of them a fan has before they are drawn by kind.
 STUB, FAN = 26, 6
@@ -142,7 +144,8 @@ class Picture:
     # Places
 
     def x(self, site):
-        return MARGIN + STAMPS + 36 + site * (GAP + self.width_of_bars)
+        gap = GAP if self.run.scenario.sites <= MOST_WIDE else NARROW_GAP
+        return MARGIN + STAMPS + 36 + site * (gap + self.width_of_bars)
 
     def y(self, moment):
         """The middle of a moment's row. One that is early stands above all rows, and one that is late below."""
@@ -289,7 +292,8 @@ class Picture:
         below, at = self.y(moment) + FONT / 3, self.words_at()
         name = self.names.of_moment(moment)
         drawn = label(MARGIN + STAMPS - 8, below, str(moment.entry.stamp), "end") + self.mark(moment)
-        drawn += label(at - 30, below, str(moment.site)) + label(at, below, self.short[moment])
+        # The last digits of all sites stand under one another.
+        drawn += label(at - (30 if moment.site < 10 else 38), below, str(moment.site)) + label(at, below, self.short[moment])
         if name in self.colours:
             drawn += swatch(at - 14, self.y(moment), self.colours[name])
         title = f"{self.said(moment, True)}\n{moment.entry.line}"

@@ -5,7 +5,9 @@ import re
 import struct
 from collections import namedtuple
 
-MOST_BODY, MOST_ENTRIES, MOST_UPDATES, MOST_IDS, MOST_SITES = 65536, 100_000, 256, 4095, 8
+MOST_BODY, MOST_ENTRIES, MOST_UPDATES, MOST_IDS, MOST_SITES = 65536, 100_000, 256, 4095, 16
+# The formats of records, and the most sites that a journal of the first one serves.
+FORMS, MOST_OF_FIRST = (1, 2), 8
 LOAD_SITES, MOST_CALLS = 3, 20_000
 PACKETS = ("propagate", "ack", "dsmark", "visible", "prepare", "vote", "release", "released")
 CALLS = ("start", "read", "write", "setadd", "setdel", "setread", "setreadid", "commit", "abort", "level", "bad")
@@ -19,7 +21,7 @@ Entry = namedtuple("Entry", "place line stamp site event outcome kept wrote flig
 Report = namedtuple("Report", "sites tolerated clients lines entries")
 # A site's line, as it says it of the site's trail.
 SiteLine = namedtuple("SiteLine", "place up epoch events records got committed log")
-# A record: its kind, and of these what it has. `site` is another site, `number` an epoch, a commit, or a slow commit.
+# A record: its kind, and of these what it has. `site` is another site, `number` an epoch, a commit, a slow commit, or a format.
 Record = namedtuple("Record", "kind site number transaction name objects marks", defaults=(None,) * 6)
 # An update is its kind, `write`, `setadd` or `setdel`, the object, and its bytes or its id.
 Transaction = namedtuple("Transaction", "name slow snapshot updates")
@@ -45,7 +47,7 @@ EVENTS = {
     "call": re.compile(f"(call):{NUMBER}:({'|'.join(CALLS)})"),
     "deliver": re.compile(f"(deliver):{NUMBER}:{NUMBER}:({'|'.join(PACKETS)})"),
     "advance": re.compile(f"(advance):{NUMBER}"),
-    **{word: re.compile(f"({word})") for word in ("tick", "stop", "restart")},
+    **{word: re.compile(f"({word})") for word in ("tick", "upgrade", "stop", "restart")},
 }
 OUTCOMES = {
     "reply": re.compile("(reply):((?:[0-9a-f]{2})+)"),
@@ -98,12 +100,22 @@ def require(right):
         raise ValueError("not as docs/FORMATS.md has it")
 
 
-def transaction_of(cursor, sites):
-    name, slow, vector = cursor.take("BIQ"), cursor.number("Q"), cursor.take("8Q")
-    require(name[0] < sites and not any(vector[sites:]))
+def vector_of(cursor, sites, form):
+    """The numbers of a vector: eight in the first format, of which those of no site are 0; in the second as many as it says."""
+    if form == 1:
+        vector = cursor.take(f"{MOST_OF_FIRST}Q")
+        require(sites <= MOST_OF_FIRST and not any(vector[sites:]))
+        return vector[:sites]
+    require(cursor.number("B") == sites)
+    return cursor.take(f"{sites}Q")
+
+
+def transaction_of(cursor, sites, form):
+    name, slow, vector = cursor.take("BIQ"), cursor.number("Q"), vector_of(cursor, sites, form)
+    require(name[0] < sites)
     count = cursor.number("H")
     require(1 <= count <= MOST_UPDATES)
-    return Transaction(name, slow, vector[:sites], tuple(update_of(cursor) for _ in range(count)))
+    return Transaction(name, slow, vector, tuple(update_of(cursor) for _ in range(count)))
 
 
 def update_of(cursor):
@@ -123,17 +135,36 @@ def objects_of(cursor):
 
 
 def record_of(data, sites):
-    """The record that these bytes spell."""
+    """The record that these bytes spell, in the first format or else in the second."""
+    return spelled_in(FORMS, data, sites)[1]
+
+
+def spelled_in(forms, data, sites):
+    """The first of some formats in which these bytes spell a record, and the record."""
+    *others, last = forms
+    for form in others:
+        try:
+            return form, record_in(form, data, sites)
+        except (ValueError, struct.error):
+            pass
+    return last, record_in(last, data, sites)
+
+
+def record_in(form, data, sites):
+    """The record that these bytes spell in a format."""
     cursor = Cursor(data)
-    record = record_at(cursor, cursor.number("B"), sites)
+    record = record_at(cursor, cursor.number("B"), sites, form)
     cursor.end()
     require(record.site is None or record.site < sites)
     return record
 
 
-def record_at(cursor, kind, sites):
-    require(1 <= kind <= 9)
-    name = ("Boot", "Own", "Got", "Seen", "Prepared", "Released", "SlowBegin", "SlowEnd", "Marks")[kind - 1]
+def record_at(cursor, kind, sites, form):
+    require(1 <= kind <= 10)
+    name = ("Boot", "Own", "Got", "Seen", "Prepared", "Released", "SlowBegin", "SlowEnd", "Marks", "Format")[kind - 1]
+    if name == "Format":
+        require(cursor.number("B") == 2)
+        return Record(name, number=2)
     if name == "Boot":
         return Record(name, number=cursor.number("I"))
     if name == "Marks":
@@ -141,7 +172,7 @@ def record_at(cursor, kind, sites):
     site = cursor.number("B") if name in ("Got", "Seen", "Prepared", "Released") else None
     record = Record(name, site, cursor.number("Q"))
     if name in ("Own", "Got", "SlowBegin"):
-        return record._replace(transaction=transaction_of(cursor, sites))
+        return record._replace(transaction=transaction_of(cursor, sites, form))
     if name == "Prepared":
         return record._replace(name=cursor.take("BIQ"), objects=objects_of(cursor))
     return record
@@ -270,6 +301,8 @@ class Reading:
         sites, tolerated, count = map(int, self.match(HEAD_LINE, "sites N f F clients N").groups())
         self.check(1 <= sites <= MOST_SITES and tolerated < sites, f"1 to {MOST_SITES} sites, fewer of them to be lost")
         self.sites = sites
+        # The format in force at each site, as far as its records tell it: which one its journal began in no line says.
+        self.forms = [None] * sites
         clients = [self.client(number) for number in range(count)]
         lines = [self.site(number) for number in range(sites)]
         entries = []
@@ -322,11 +355,23 @@ class Reading:
         self.check(site < self.sites, f"a site below {self.sites}")
         self.check(before is None or (before.stamp, before.site) < (stamp, site), "entries by stamp, and then by site")
         event = self.event(match[3], site, clients)
-        records = [self.bytes_as(record_of, "records as docs/FORMATS.md has them", hex_of(text), self.sites)
-                   if text != "-" else None for text in match.groups()[4:7]]
+        records = [self.record(site, text, in_flight) for text, in_flight in zip(match.groups()[4:7], (False, False, True))]
         sends = self.sends(match[8], site)
         outcome = self.outcome(match[4], event)
         return Entry(self.at, match[0], stamp, site, event, outcome, *records, sends, int(match[9]))
+
+    def record(self, site, text, in_flight):
+        """The record of a site that is told, which is to be in the format in force there. One in flight changes none."""
+        if text == "-":
+            return None
+        forms = (self.forms[site],) if self.forms[site] else FORMS
+        form, record = self.bytes_as(spelled_in, "records as docs/FORMATS.md has them", forms, hex_of(text), self.sites)
+        if record.kind == "Format":
+            self.check(self.forms[site] != 2, "no record Format where the second format is in force")
+            form = 1 if in_flight else 2
+        if record.transaction or record.kind == "Format":
+            self.forms[site] = form
+        return record
 
     def event(self, text, site, clients):
         match = match_of(EVENTS, text)

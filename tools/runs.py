@@ -149,7 +149,7 @@ class Site:
         self.log, self.held = [], {}
         self.got, self.committed = [0] * scenario.sites, [0] * scenario.sites
         self.slows, self.locks, self.over, self.all_locks = {}, {}, set(), []
-        self.floors, self.flight = (0, 0), None
+        self.floors, self.flight, self.is_upgraded = (0, 0), None, False
         self.go_down()
 
     def go_down(self):
@@ -158,7 +158,8 @@ class Site:
 
     def learn(self, record, moment):
         learns = {"Boot": self.boot, "Own": self.own, "Got": self.receive, "Seen": self.see, "Prepared": self.prepared,
-                  "Released": self.released, "SlowBegin": self.slow_begin, "SlowEnd": self.slow_end, "Marks": self.marks}
+                  "Released": self.released, "SlowBegin": self.slow_begin, "SlowEnd": self.slow_end, "Marks": self.marks,
+                  "Format": self.upgraded}
         learns[record.kind](record, moment)
 
     def boot(self, _, moment):
@@ -189,6 +190,10 @@ class Site:
 
     def prepared(self, record, moment):
         self.lock(record.site, record.number, record.name, record.objects, moment)
+
+    def upgraded(self, *_):
+        """The records behind it are spelled otherwise, and tell the same."""
+        self.is_upgraded = True
 
     def released(self, record, moment):
         self.let_go(record.site, record.number, moment)

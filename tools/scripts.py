@@ -42,13 +42,15 @@ NUMBERS = {
     "id": (">Q", " ", "an id, a whole number below 2^64", ("an id",)),
     "transaction": (">BIQ", ".", "a transaction as site.epoch.number", ("a site", "an epoch", "a number of a transaction")),
 }
-STEPS = ("arm", "stop", "restart", "deliver", "advance", "tick", "pump")
+STEPS = ("arm", "stop", "restart", "deliver", "advance", "tick", "upgrade", "pump")
 LINK = ("seed", "lose", "repeat", "swap")
 MOST_ROOM, MOST_RATE, MOST_TICKS, MOST_THREADS = 100_000, 1000, 10_000, 32
-MOST_SITES, MOST_CONTAINERS, MOST_CLIENTS, MOST_PACKET = 8, 256, 1024, (1 << 32) - 1
+MOST_SITES, MOST_CONTAINERS, MOST_CLIENTS, MOST_PACKET = 16, 256, 1024, (1 << 32) - 1
 LEAST_CAPACITY, MOST_CAPACITY, MOST_BYTES = 19, 1 << 40, 16_777_216
 # The least capacity of journals of two areas, of which each has half.
 LEAST_OF_TWO = 47
+# The most sites that a journal of the first format serves.
+MOST_OF_FIRST = 8
 # No step, container, client or arm takes as much in a scenario, but for a client's bytes, and all else together less than four
 # times as much.
 MOST_WORDS, MOST_ELSE = 64, 4
@@ -235,7 +237,7 @@ class Script:
 
     def __init__(self):
         self.place = 0
-        self.sites = self.tolerated = self.capacity = self.areas = self.room = self.link = self.ticks = self.threads = None
+        self.sites = self.tolerated = self.capacity = self.areas = self.room = self.format = self.link = self.ticks = self.threads = None
         self.containers, self.arms, self.armed_at = [], [], []
         # The lines of what stands once in a script: settings by their words, and containers by their numbers.
         self.once = {}
@@ -293,6 +295,11 @@ class Script:
     def take_room(self, count):
         self.take_once("room")
         self.room = number(count, 0, MOST_ROOM + 1, f"a number of entries to {MOST_ROOM}")
+
+    def take_format(self, which):
+        self.take_once("format")
+        least = 1 if self.sites <= MOST_OF_FIRST else 2
+        self.format = number(which, least, 3, f"the format 1 or 2, and 1 only where there are at most {MOST_OF_FIRST} sites")
 
     def take_link(self, seed, *rates):
         self.take_once("link")
@@ -362,6 +369,9 @@ class Script:
 
     def take_tick(self, site):
         self.step("tick", self.site(site))
+
+    def take_upgrade(self, site):
+        self.step("upgrade", self.site(site))
 
     def take_pump(self, site):
         self.step("pump", self.site(site))
@@ -451,7 +461,7 @@ class Script:
     def head(self):
         """What a scenario has beside its clients and its steps."""
         made = {"sites": self.sites, "f": self.tolerated, "containers": self.containers}
-        for key in "capacity", "areas", "room", "link", "ticks", "threads":
+        for key in "capacity", "areas", "room", "format", "link", "ticks", "threads":
             if getattr(self, key) is not None:
                 made[key] = getattr(self, key)
         if self.arms:
@@ -489,6 +499,7 @@ FORMS = {
     "capacity N": Script.take_capacity,
     "areas N": Script.take_areas,
     "room N": Script.take_room,
+    "format N": Script.take_format,
     "link seed N lose N repeat N swap N": Script.take_link,
     "ticks N": Script.take_ticks,
     "threads N": Script.take_threads,
@@ -505,6 +516,7 @@ FORMS = {
     "advance SITE from SITE": Script.take_advance,
     "advance to SITE": Script.take_advance_to,
     "tick SITE": Script.take_tick,
+    "upgrade SITE": Script.take_upgrade,
     "pump all": Script.take_pump_all,
     "pump until idle": Script.take_pump_until_idle,
     "pump SITE": Script.take_pump,
@@ -638,7 +650,7 @@ def head_lines(script, names):
 def catalog_lines(made):
     """The lines of what a scenario has beside its clients, its arms and its steps."""
     lines = [f"sites {made['sites']} tolerated {made['f']}"]
-    lines += lines_of_keys(made, "capacity", "areas", "room")
+    lines += lines_of_keys(made, "capacity", "areas", "room", "format")
     if "link" in made:
         lines.append(words_of_step("link", *(made["link"][part] for part in LINK)))
     lines += lines_of_keys(made, "ticks", "threads")

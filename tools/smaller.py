@@ -2,7 +2,7 @@
 
 What the link made is left out freely. A client's own lines are left out only where the script without them, played by its own
 deliveries, still meets the expectation: else anything that lacks a line would break it. So are the lines that say how many
-areas journals have, and for how many entries trails have their memory from the start.
+areas journals have, in which format they begin, and for how many entries trails have their memory from the start.
 """
 
 import copy
@@ -39,7 +39,7 @@ class Search:
         self.may_shorten = meets(played(script, self.own))
 
     def smallest(self):
-        for setting in "areas", "room":
+        for setting in "areas", "room", "format":
             self.leave_out_setting(setting)
         for _ in range(ROUNDS):
             before = len(self.items)

@@ -30,6 +30,7 @@ RECORDS = {
     "SlowBegin": "a slow commit of this site begins",
     "SlowEnd": "a slow commit of this site ends without a commit",
     "Marks": "how many own commits are durable, and visible",
+    "Format": "the records behind it are in the second format",
 }
 PACKETS = {
     "propagate": "this is my commit of that number",
@@ -252,6 +253,8 @@ def outcome(moment, whole=True):
         return f"site {moment.site} is down"
     if kind == "tick":
         return sends(moment.sends, whole) or ("nothing is put out" if moment.entry.dropped else "nothing is owed")
+    if kind == "upgrade":
+        return f"site {moment.site} journals in the second format" + (" already" if word == "passed" else " from now on")
     return taken(moment) if word == "taken" else passed(moment)
 
 

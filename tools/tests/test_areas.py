@@ -51,9 +51,18 @@ def full_of(outcome):
     return struct.unpack(">QQ", reply[6:]) if reply[4:6] == bytes([model.REFUSED, 10]) else None
 
 
+def bodies_of(site, records):
+    """The bodies of a site's first records, each in the format that is in force at its place."""
+    form, bodies = site.header, []
+    for record in records:
+        bodies.append(record_of(record, form))
+        form = 2 if record[0] == model.FORMAT else form
+    return bodies
+
+
 def left_of(site, records, packed):
     """How many bytes are left behind these records, of which so many are packed where there are two areas."""
-    bodies = list(map(record_of, records))
+    bodies = bodies_of(site, records)
     if site.areas == 1:
         return site.capacity - 9 - sum(5 + len(body) for body in bodies)
     entries = sum(len(journals.entry_of(body, site.count)) for body in bodies[:packed])
@@ -158,7 +167,7 @@ class Areas(unittest.TestCase):
 
     def check_crash(self, site, where):
         """The one more is the record in flight. A fault in a pack leaves none, and all of the records."""
-        known, flight = list(map(record_of, site.records)), site.flight and record_of(site.flight)
+        known, flight = bodies_of(site, site.records), site.flight and record_of(site.flight, site.form)
         for choice in CHOICES:
             found = bodies_in(site, crashed(site.disk, choice))
             self.assertEqual(found[: len(known)], known, where)
@@ -445,7 +454,7 @@ class Key(unittest.TestCase):
                      {"areas": 3, "link": 0}):
             self.assertEqual(self.wrong(**more), "the areas: wants 1 or 2, and 2 only where the capacity is at least 47", more)
         self.assertEqual(self.wrong(areas=2, capacity=18), readings.TEXTS["capacity"])
-        self.assertTrue(readings.TEXTS["keys"].endswith(" takes capacity, areas, room, link, ticks, threads and arms besides"))
+        self.assertTrue(readings.TEXTS["keys"].endswith(" takes capacity, areas, room, format, link, ticks, threads and arms besides"))
         self.assertEqual(self.wrong(areas=2, link=0), readings.TEXTS["link"])
 
 

@@ -5,15 +5,17 @@ import io
 import os
 import sys
 import unittest
+from collections import Counter
 from unittest import mock
 
 from played import InFolder, TOP, random_scenario, run_bench
 import compare
+import model
 
 MODEL = f'#!/bin/sh\nexec {sys.executable} {os.path.join(TOP, "bench", "model.py")} "$@"\n'
-# Refuses a scenario with areas or room, and hands on any other.
+# Refuses a scenario with areas, room or a format, and hands on any other.
 REFUSING = """read -r line
-case $line in *'"areas"'* | *'"room"'*) exit 2 ;; esac
+case $line in *'"areas"'* | *'"room"'* | *'"format"'*) exit 2 ;; esac
 echo "$line" |"""
 
 
@@ -38,11 +40,12 @@ class Compare(InFolder):
         playing = MODEL.replace("exec", "shift\nexec")
         newer = self.write("program", playing, is_program=True)
         older = self.write("older", playing.replace("exec", REFUSING), is_program=True)
-        for key in "areas", "room":
+        for key in "areas", "room", "format":
             self.assertEqual([compare.knows(program, key) for program in (newer, older)], [True, False])
         out = run_bench(compare, "--program", older, "--scenarios", "2", "--seed", "1", "--loads", "0")[1].splitlines()
-        self.assertEqual([*out[:2], out[-1]], ["the program refuses the key areas: no scenario has it",
+        self.assertEqual([*out[:3], out[-1]], ["the program refuses the key areas: no scenario has it",
                                                "the program refuses the key room: no scenario has it",
+                                               "the program refuses the key format: no scenario has it",
                                                "2 scenarios from seed 1: the same"])
         out = run_bench(compare, "--model", "--one-area", "--scenarios", "2", "--loads", "0")[1]
         self.assertNotIn("pack into", out)
@@ -52,6 +55,16 @@ class Compare(InFolder):
         self.assertEqual({made.get("room") for made in some}, {None, 0, 1, 20, 100000})
         self.assertFalse(any("room" in made for made in alone))
         self.assertEqual([{key: value for key, value in made.items() if key != "room"} for made in some], alone)
+
+    def test_random_scenarios_have_formats_unless_none_are_asked_for(self):
+        some, alone = ([made for _, made in compare.made_from(0, 60, False, True, True, formats)] for formats in (True, False))
+        self.assertEqual({made.get("format") for made in some}, {None, 1, 2})
+        self.assertTrue(any(step[0] == "upgrade" for made in some for step in made["steps"]))
+        self.assertFalse(any("format" in made or ["upgrade", 0] in made["steps"] for made in alone))
+        met = Counter()
+        for made in some:
+            compare.count_met(model.played(made, met), met)
+        self.assertTrue(all(met[what] for what in compare.FORMATS if what.startswith("upgrade")), met)
 
     def test_of_any_number_of_sites(self):
         self.assertEqual(list(compare.made_from(3, 5, False)), [(seed, random_scenario(seed)) for seed in range(3, 8)])

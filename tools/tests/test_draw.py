@@ -115,6 +115,19 @@ class Draw(unittest.TestCase):
             with self.subTest(seed):
                 self.check(random_run(seed)[1])
 
+    def test_many_sites_stand_closer(self):
+        """So closely that no heading touches the next one, and no number of a site its colour; few have the place that they had."""
+        for sites, between in (8, 72), (9, 54), (16, 54):
+            run = run_of(f"sites {sites} tolerated 0\nclient ann at {sites - 1}\nann: start\n")
+            picture = pictures.Picture(run)
+            self.assertEqual({picture.x(site + 1) - picture.x(site) for site in range(sites - 1)}, {between})
+            drawn = Drawn(picture.svg())
+            self.check_labels(drawn)
+            last = drawn.all("g", "entry")[-1]
+            (swatch,), number = last.iter(SVG + "rect"), [one for one in last.iter(SVG + "text")][1]
+            self.assertEqual(number.text, str(sites - 1))
+            self.assertLess(float(number.get("x")) + len(number.text) * LETTER, float(swatch.get("x")))
+
     def test_entries_of_one_stamp_stand_in_the_order_of_the_steps(self):
         """The clients of the sites 2, 0 and 1 call in this order."""
         script = "sites 3 tolerated 0\n" + "".join(f"client at{site} at {site}\n" for site in range(3))
@@ -126,6 +139,16 @@ class Draw(unittest.TestCase):
             places = {step.moment: step.place for step in run.steps if step.moment}
             keys = [(moment.entry.stamp, places.get(moment, -1)) for moment in pictures.in_order(run)]
             self.assertEqual(keys, sorted(keys))
+
+    def test_an_upgrade_is_drawn(self):
+        """As a record that is of no transaction, and in a row of words, with the record's kind below."""
+        picture = pictures.Picture(example_run(os.path.join(TOP, "examples", "upgraded_in_place.json")))
+        moment = next(one for one in picture.moments if one.entry.event[0] == "upgrade")
+        entry = Drawn(picture.svg()).all("g", "entry")[picture.rows[moment]]
+        self.assertEqual(entry.find(SVG + "circle").get("fill"), pictures.PLAIN)
+        said = [one.text for one in entry.iter(SVG + "text")]
+        self.assertEqual(said[-1], "upgrade 1 -> site 1 journals in the second format from now on [Format 2]")
+        self.assertIn("Format: the records behind it are in the second format", picture.svg())
 
     def test_a_transaction_has_one_colour_at_all_sites(self):
         """In the picture of a slow commit its records and packets have one colour, and the other transaction another."""

@@ -117,7 +117,7 @@ LATER = [
 SLOW = os.path.join(TOP, "examples", "slow_commit.json")
 # What is written for what in the report and the trace of that example, the line that is wrong then, and what is wanted.
 WRONG = [
-    ("sites 2 f 0", "sites 2 f 2", 1, "1 to 8 sites"),
+    ("sites 2 f 0", "sites 2 f 2", 1, "1 to 16 sites"),
     ("clients 2\n", "clients 02\n", 1, "sites N f F clients N"),
     ("client 1 site 1", "client 1 site 0", 9, "a call at its client's site"),
     ("replies 3 ", "replies 4 ", 2, "as many replies as it says"),
@@ -205,6 +205,10 @@ class Explain(unittest.TestCase):
             ("two_writers", "bob commit -> aborted: 10:5 was modified by 0@1"),
             ("pumped_link", "pump 1: tick 1 -> to 0: PREPARE 1 of 1.1.1 for 10:5 as packet 3"),
             ("pumped_link", "lost by the link: 1 <- 0 packet 1 VOTE 1 YES"),
+            ("upgraded_in_place", "upgrade 1 -> site 1 journals in the second format from now on"),
+            ("upgraded_in_place", "pump 1: 1 <- 0 packet 2 VOTE 1 YES: committed 1@2"),
+            ("sixteen_sites", "hal commit -> aborted: 7:1 is locked by 0.1.1"),
+            ("sixteen_sites", "0 <- 15 packet 1 VOTE 1 YES: committed 0@1"),
         ]:
             self.assertIn(line, self.explained(example_run(os.path.join(TOP, "examples", name + ".json"))))
 

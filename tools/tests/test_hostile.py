@@ -1,5 +1,6 @@
 """Which inputs and shapes bench/hostile.py makes, and what it says of those that differ, with the plain model as the program."""
 
+import itertools
 import json
 import os
 import random
@@ -96,13 +97,30 @@ class Inputs(unittest.TestCase):
             return hostile.wrong_with_files("program", hostile.played_over(1), contents, told, contents)
 
     def test_sites_begin_over_what_is_found(self):
-        """Over a journal without records a site comes to the same, in the layout that it has; what stands behind stays."""
+        """Over a journal without records a site comes to the same, in the layout and the format that it has, whatever is asked
+        for; what stands behind stays."""
         made = {**hostile.played_over(1), "capacity": 700}
-        for content in journals.empty(1, 700), journals.empty(2, 700), journals.empty(1, 700) + bytes(500) + b"behind":
-            run = model.played(made, Counter(), lambda scenario, me, met, content=content: hostile.Found(content, scenario, me, met))
-            areas = 1 if content[:8] == journals.HEADER else 2
-            self.assertEqual(run.text(), model.play({**made, "areas": areas}, Counter()))
-            self.assertTrue(bytes(run.sites[0].disk.safe).endswith(content[520:]))
+        for areas, form, asked, behind in itertools.product((1, 2), (1, 2), (1, 2), (b"", bytes(500) + b"behind")):
+            content = journals.empty(areas, 700, form)
+            content += behind[len(content) :]
+            run = model.played({**made, "format": asked}, Counter(),
+                               lambda scenario, me, met, content=content: hostile.Found(content, scenario, me, met))
+            self.assertEqual(run.text(), model.play({**made, "areas": areas, "format": form}, Counter()))
+            self.assertTrue(bytes(run.sites[0].disk.safe).endswith(behind[-6:]))
+
+    def test_journals_are_of_both_formats(self):
+        bases = hostile.journal_bases()
+        for (capacity, sites), made in bases.items():
+            areas = 1 + (capacity >= journals.LEAST_OF_TWO)
+            right = {header for form in hostile.forms_of(sites) for header in journals.HEADERS[form][:areas]}
+            self.assertEqual({base[:8] for base in made}, right | {journals.HEADER})
+        self.assertEqual(hostile.cause_of(journals.empty(1, 700), 700, 16), ("it has no journal", 0))
+        for base in bases[700, 2]:
+            bodies = journals.bodies_of(journals.read(base, 700, 2))
+            own = [len(body) for body in bodies if body[0] == 2]
+            if own:
+                is_first = base[:8] in journals.HEADERS[1]
+                self.assertEqual((own, bodies.count(b"\x0a\2")), ([118 if is_first else 71, 71], int(is_first)))
 
     def test_changed_values_are_json(self):
         rng, bases = random.Random(1), [json.dumps(hostile.requests_of(1, 3)).encode()]
@@ -120,7 +138,7 @@ class Shapes(InFolder):
                 except readings.Refused as refused:
                     said = str(refused)
                 self.assertEqual(said, wanted if isinstance(wanted, str) else model.played(wanted, Counter()).text(False))
-                if not name.startswith("8,19"):
+                if not name.startswith("16,38"):
                     self.assertEqual(len(data), readings.MOST_BYTES + 1 if name == "one byte too many" else SMALL)
 
     def test_what_a_shape_takes_is_told(self):

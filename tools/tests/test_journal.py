@@ -11,20 +11,21 @@ from played import InFolder, TOP, RANDOM, examples, file_text, random_scenario, 
 import generator
 import journals
 import model
+import readings
 import reports
 import words
 from spelled import frame, record_of
 
 STOP = [["stop", 0], ["restart", 0]]
 ONE_AREA = """\
-{}: WALTERJ1, one area, 142 bytes, for 1 site
+{}: WALTERJ1, one area, the first format, 142 bytes, for 1 site
   gate 8 open, record at 9 of 5 bytes: Boot 1
   gate 18 open, record at 19 of 118 bytes: Own 0@1 of 0.1.1, with the snapshot 0 (write 10:5 "hello")
   gate 141 closed
   nothing behind it
 """
 TWO_AREAS = """\
-{}: WALTERK1, two areas, 151 bytes, for 1 site and a capacity of 293 bytes
+{}: WALTERK1, two areas, the first format, 151 bytes, for 1 site and a capacity of 293 bytes
   switch 0: area A is live
   area A at 9: live, with a pack of 0 bytes
     gate 17 open, record at 18 of 5 bytes: Boot 1
@@ -34,7 +35,7 @@ TWO_AREAS = """\
   area B at 151: no bytes
 """
 IN_B = """\
-{}: WALTERK1, two areas, 247 bytes, for 1 site and a capacity of 293 bytes
+{}: WALTERK1, two areas, the first format, 247 bytes, for 1 site and a capacity of 293 bytes
   switch 1: area B is live
   area A at 9: 142 bytes that don't count
   area B at 151: live, with a pack of 77 bytes
@@ -45,7 +46,7 @@ IN_B = """\
     nothing behind it
 """
 IN_A = """\
-{}: WALTERK1, two areas, 350 bytes, for 1 site and a capacity of 500 bytes
+{}: WALTERK1, two areas, the first format, 350 bytes, for 1 site and a capacity of 500 bytes
   switch 0: area A is live
   area A at 9: live, with a pack of 87 bytes
     entry at 17 of 5 bytes: Boot 1
@@ -117,6 +118,44 @@ class Shown(InWords):
         told = [self.lines(data, "--sites", "2") for data in disks_of(example("slow_commit"))]
         self.assertIn('Own 1@1 of 1.1.1, its slow commit 1, with the snapshot 0,0 (write 10:5 "s")', "\n".join(told[1]))
 
+    def test_the_records_of_both_formats(self):
+        made = example("first_run", [["upgrade", 0]])
+        lines = self.lines(disks_of(made)[0])
+        self.assertEqual(lines[0], "WALTERJ1, one area, the first format, 149 bytes, for 1 site")
+        self.assertIn("  gate 141 open, record at 142 of 2 bytes: Format 2", lines)
+        (data,) = disks_of({**made, "format": 2})
+        self.assertEqual(self.lines(data)[0], "WALTERJ2, one area, the second format, 87 bytes, for 1 site")
+        self.assertIn('record at 19 of 63 bytes: Own 0@1 of 0.1.1, with the snapshot 0 (write 10:5 "hello")', self.lines(data)[2])
+
+    def test_each_header_tells_its_format(self):
+        for header, areas, form in [("WALTERJ1", "one area", "first"), ("WALTERJ2", "one area", "second"),
+                                    ("WALTERK1", "two areas", "first"), ("WALTERK2", "two areas", "second")]:
+            data = journals.empty(1 if areas == "one area" else 2, 300, 1 if form == "first" else 2)
+            self.assertEqual(self.lines(data, "--capacity", "300")[0].split(" bytes")[0],
+                             f"{header}, {areas}, the {form} format, {len(data)}")
+
+    def test_a_site_that_is_upgraded_has_records_of_both_formats(self):
+        for areas in 1, 2:
+            data = disks_of(example("upgraded_in_place", areas=areas, capacity=4000))[1]
+            lines = self.lines(data, "--sites", "3", "--capacity", "4000")
+            # The record and the two in front of it, and the first of a commit behind it.
+            at = next(place for place, line in enumerate(lines) if line.endswith(": Format 2"))
+            sizes = [int(re.search(r" of ([0-9]+) bytes", line)[1]) for line in lines[at - 2 : at + 4] if "Marks" not in line]
+            self.assertEqual(sizes, [116, 116, 2, 77] if areas == 1 else [76, 76, 2, 77])
+            self.assertIn("Own 1@2 of 1.1.2, its slow commit 1, with the snapshot 0,1,0", "\n".join(lines[at:]))
+
+    def test_what_is_not_in_the_format_in_force_is_no_record(self):
+        tx = model.Tx((0, 1, 1), 0, (0,), ((3, (10, 5), b"hello"),))
+        first, second = (record_of((2, 1, tx), form) for form in (1, 2))
+        for header, bodies, right in [("J1", [first, second], [True, False]), ("J2", [first, second], [False, True]),
+                                      ("J1", [first, b"\x0a\2", second, first], [True, True, True, False])]:
+            data = b"WALTER" + header.encode() + b"".join(b"\1" + frame(body) for body in bodies) + b"\0" + frame(bodies[0]) + b"\0"
+            told = [": no record: " not in line for line in self.lines(data, "--sites", "1")[1:]]
+            self.assertEqual(told[: len(right)], right)
+            # What stands behind the end is read by the format in force there.
+            behind = self.lines(data, "--sites", "1")[-1]
+            self.assertEqual("a record of" in behind, header == "J1" and len(bodies) == 2)
+
     def test_all_records_of_random_runs(self):
         """Those of the trail, and one in flight that a restart would find, whatever number of sites is told."""
         for made in [*map(random_scenario, RANDOM[:60]), *(generator.scenario(seed, False) for seed in RANDOM[:20])]:
@@ -125,7 +164,8 @@ class Shown(InWords):
                 told = self.lines(data, "--capacity", str(site.capacity), "--sites", str(site.count))
                 found = [line.split(": ", 1)[1] for line in told if re.match(" +(entry|gate [0-9]+ open)", line)]
                 records = site.records + [site.flight] * (len(found) - len(site.records))
-                self.assertEqual(found, [words.whole_record(reports.record_of(record_of(one), site.count)) for one in records])
+                bodies = (record_of(one, readings.format_of(site.count)) for one in records)
+                self.assertEqual(found, [words.whole_record(reports.record_of(body, site.count)) for body in bodies])
 
     def settled(self, site):
         site.disk.settle()
@@ -144,7 +184,7 @@ class Shown(InWords):
     def test_a_body_that_is_no_record(self):
         seen_of_2 = b"\4\2" + bytes(7) + b"\1"
         data = journals.HEADER + b"".join(b"\1" + frame(body) for body in (b"\1\2", bytes(100), b"", seen_of_2)) + b"\0"
-        self.assertEqual(self.lines(data)[0], "WALTERJ1, one area, 141 bytes, for 3 sites")
+        self.assertEqual(self.lines(data)[0], "WALTERJ1, one area, the first format, 141 bytes, for 3 sites")
         self.assertEqual(self.lines(data)[1:-2], ["  gate 8 open, record at 9 of 2 bytes: no record: 0102",
                                                   f"  gate 15 open, record at 16 of 100 bytes: no record: {'00' * 32}..",
                                                   "  gate 120 open, record at 121 of 0 bytes: no record: ",
@@ -202,7 +242,7 @@ class Refused(InWords):
     def test_foreign_bytes(self):
         self.assertEqual(self.wrong(b"WALTER"), "foreign at 0: it has 6 bytes, and a journal at least 9")
         self.assertEqual(self.wrong(b"NOTWALTER"), "foreign at 0: its header is 4e4f5457414c5445, and that of a journal "
-                         "57414c5445524a31 or 57414c5445524b31")
+                         "57414c5445524a31, 57414c5445524b31, 57414c5445524a32 or 57414c5445524b32")
         self.assertEqual(self.wrong(b"WALTERK1" + bytes(20), "--capacity", "46"), "foreign at 0: it has two areas, and these "
                          "want a capacity of at least 47; it is read for 1 site and a capacity of 46 bytes")
 
@@ -241,12 +281,12 @@ class Folder(InWords):
         for number, data in enumerate(disks_of(example("crossed_slow_commits"))):
             self.save(f"site-{number}.journal", data)
         for name in "site-10.journal", "site-.journal", "site-01.journal", "site-0.journal.old", "other":
-            self.save(name, b"WALTERJ1\0" if name == "site-10.journal" else b"")
+            self.save(name, b"WALTERJ2\0" if name == "site-10.journal" else b"")
         status, told, said = run_tool("journal", self.folder)
         self.assertEqual((status, said), (0, ""))
         named = [line.split(": ")[0] for line in told.splitlines() if not line.startswith(" ")]
         self.assertEqual(named, [os.path.join(self.folder, f"site-{number}.journal") for number in (0, 1, 2, 3, 10)])
-        self.assertIn("site-1.journal: WALTERJ1, one area, 61 bytes, for 4 sites\n", told)
+        self.assertIn("site-1.journal: WALTERJ1, one area, the first format, 61 bytes, for 4 sites\n", told)
 
     def test_its_words(self):
         path = os.path.join(TOP, "tools", "journal")
@@ -255,7 +295,7 @@ class Folder(InWords):
         self.assertEqual((ended.returncode, ended.stdout.decode()), (0, ONE_AREA.format("standard input")))
         for given, status, said in [
             (["--help"], 0, "usage: journal [-h] "), ([], 1, "journal: the following arguments are required: FILE"),
-            (["--sites", "9", "x"], 1, "journal: argument --sites: "),
+            (["--sites", "17", "x"], 1, "journal: argument --sites: "),
             (["--capacity", "many", "x"], 1, "journal: argument --capacity: "),
             (["none"], 3, "journal: none: No such file or directory"),
         ]:

@@ -13,6 +13,7 @@ import journals
 import kills
 import model
 import readings
+from spelled import FORMAT, OWN, frame
 
 # Appends ten records to the file of each of two sites, with a pause before each: LENGTH says how long they are. The closed gate
 # behind the last one becomes the open one of the next.
@@ -71,6 +72,34 @@ class Kills(InFolder):
                 self.assertEqual(site.last_epoch(), 1 + kills.RESTARTS * has_areas)
             packs = {what: 30 for what in ("pack into A", "pack into B")} if has_areas else {}
             self.assertEqual({what: count for what, count in met.items() if what.startswith("pack into")}, packs)
+
+    def test_made_scenarios_upgrade_each_site_amid_its_commits(self):
+        for has_areas in False, True:
+            text = kills.made(has_areas, True)
+            readings.read(text.encode())
+            for site in model.played(json.loads(text), Counter()).sites:
+                kinds = [kind for kind, *_ in site.records]
+                at = kinds.index(FORMAT)
+                self.assertEqual((kinds.count(FORMAT), kinds[:at].count(OWN), kinds[at:].count(OWN)), (1, 1, 1))
+                self.assertEqual(site.committed, [2, 2, 2])
+
+    def test_files_with_a_record_format_are_counted(self):
+        """A file is right as a front of the whole play, up to the upgrade and behind it; one upgraded otherwise is not."""
+        made = kills.Scenario(kills.made(False, True))
+        sites = model.played(json.loads(made.text), Counter()).sites
+        whole = [journals.bodies_of(journals.read(bytes(site.disk.safe), site.capacity, site.count)) for site in sites]
+        at = whole[0].index(b"\x0a\2")
+        for bodies, wrong, upgraded in [
+            (whole[0][:at], None, 2), (whole[0][: at + 1], None, 3), (whole[0], None, 3),
+            ([*whole[0][:at], *whole[0][at + 1 :]], f"site 0: {len(whole[0]) - 1} records, and not the first ones of the whole play", 0),
+        ]:
+            files = [bodies, *whole[1:]]
+            for site, kept in enumerate(files):
+                records = b"".join(b"\1" + frame(body) for body in kept)
+                with open(kills.file_of(self.folder, site), "wb") as file:
+                    file.write(journals.HEADER + records + b"\0")
+            met = Counter()
+            self.assertEqual((kills.wrong_with(made, self.folder, whole, False, met), met["upgraded"]), (wrong, upgraded))
 
     def test_commits_are_measured(self):
         program = self.program()

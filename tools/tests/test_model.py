@@ -38,7 +38,7 @@ OTHERS = [
 ]
 # What stands in a right scenario, and the place that is wrong then; or none.
 PLACES = [
-    ("sites", 0, "sites"), ("sites", 9, "sites"), ("sites", 1.0, "sites"), ("sites", True, "sites"), ("sites", "2", "sites"),
+    ("sites", 0, "sites"), ("sites", 17, "sites"), ("sites", 16, None), ("sites", 1.0, "sites"), ("sites", True, "sites"), ("sites", "2", "sites"),
     ("f", 2, "f"), ("f", -1, "f"), ("f", None, "f"), ("f", -0.0, "f"),
     ("containers", 1, "containers", 0), ("containers", [[2, "regular", 0], [1, "cset", 0]], "containers", 1),
     ("containers", [[1, "regular", 2]], "containers", 0), ("containers", [[1, "Regular", 1]], "containers", 0),
@@ -52,6 +52,8 @@ PLACES = [
     ("areas", 1, None), ("areas", 2, None), ("areas", 0, "areas"), ("areas", 3, "areas"), ("areas", None, "areas"),
     ("room", 0, None), ("room", 100000, None), ("room", 100001, "room"), ("room", -1, "room"), ("room", 1.0, "room"),
     ("room", None, "room"),
+    ("format", 1, None), ("format", 2, None), ("format", 0, "format"), ("format", 3, "format"), ("format", 1.0, "format"),
+    ("format", None, "format"), ("format", "2", "format"),
     ("link", LINK, None), ("link", {**LINK, "seed": 2**64 - 1, "lose": 1000}, None), ("link", [], "link"),
     ("link", {**LINK, "seed": 2**64}, "link"), ("link", {**LINK, "swap": 1001}, "link"), ("link", {**LINK, "repeat": -1}, "link"),
     ("link", {**LINK, "ticks": 1}, "link"), ("link", {"seed": 1, "lose": 1, "repeat": 1}, "link"), ("link", None, "link"),
@@ -110,7 +112,7 @@ class Model(unittest.TestCase):
             wanted = place and readings.TEXTS[place].format(*index)
             self.assertEqual(refusal(json.dumps({**RIGHT, key: value}).encode()), wanted, (key, value))
         self.assertEqual(refusal(b" " * 16_777_217), readings.TEXTS["long"])
-        self.assertEqual(refusal(json.dumps({**RIGHT, "sites": 9, "f": 9, "steps": 1}).encode()), readings.TEXTS["sites"])
+        self.assertEqual(refusal(json.dumps({**RIGHT, "sites": 17, "f": 17, "steps": 1}).encode()), readings.TEXTS["sites"])
 
     def test_of_a_wrong_step_the_first_wrong_part_is_told(self):
         for step, said in STEPS:

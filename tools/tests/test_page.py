@@ -117,6 +117,22 @@ class Page(unittest.TestCase):
         stands = [dict(stop.held[moment])["stands"] for moment in stop.moments]
         self.assertEqual(stands, ["up"] * 3 + ["down, with Own 0@1 in flight"] * 2 + ["up"] * 2)
 
+    def test_an_upgrade_is_told_and_stays(self):
+        run = watched(os.path.join(TOP, "examples", "upgraded_in_place.json"))
+        told = [dict(run.held[moment]).get("journals") for moment in run.moments if moment.site == 1]
+        at = [moment.entry.event[0] for moment in run.moments if moment.site == 1].index("upgrade")
+        self.assertEqual(told, [None] * at + ["in the second format, since it was upgraded"] * (len(told) - at))
+
+    def test_fifteen_peers_are_told_together(self):
+        """By what they have said: at the end each has received and committed the one commit."""
+        run = watched(os.path.join(TOP, "examples", "sixteen_sites.json"))
+        all_others = ", ".join(map(str, range(1, 16)))
+        lines = [dict(run.held[moment])["peers"] for moment in run.moments if moment.site == 0]
+        self.assertEqual(lines[0], f"{all_others} have said: received 0, committed 0, durable there 0")
+        self.assertEqual(lines[-1], f"{all_others} have said: received 1, committed 1, durable there 0")
+        self.assertIn("1 has said: received 1, committed 0, durable there 0; " + lines[0].replace("1, ", "", 1), lines)
+        self.assertEqual(len(run.begin), 16)
+
     def test_what_random_sites_hold_is_what_they_hold(self):
         """At the end the commits and the values are those of the model."""
         for seed in RANDOM[:60]:

@@ -10,6 +10,8 @@ from unittest import mock
 
 from played import run_bench
 import refusals
+from spelled import FORMAT
+
 
 class Program:
     """Has eight allocations, and plays by the model, where the Nth entry of site 0 wants memory; at the first refusal it ends
@@ -118,6 +120,21 @@ class Wants(unittest.TestCase):
         one = refusals.Played(refusals.example("packed_on_restart"))
         abort = next(at for at, line in enumerate(one.whole.splitlines()[3:]) if ":abort " in line)
         self.assertEqual(refusals.played(one.scenario, [{abort: "-"}]).text(), one.whole)
+
+    def test_an_upgrade_that_wants_memory_is_none(self):
+        """The next one brings the record then, and from it on the second format is in force."""
+        one = refusals.scenarios(False)["upgraded in place"]
+        at = next(place for place, entry in enumerate(self.upgraded_site(one, {}).entries) if entry.event == "upgrade")
+        site = self.upgraded_site(one, {at: "-"})
+        entries = site.entries[at : at + 2]
+        self.assertEqual([(entry.outcome, entry.wrote, entry.form) for entry in entries], [("memory", None, 1), ("taken", (FORMAT,), 2)])
+        report = refusals.played(one.scenario, [{}, {at: "-"}, {}]).text()
+        self.assertIn(" 1 upgrade memory - - - - 0\n", report)
+        self.assertIsNone(one.wrong(report))
+        self.assertIsNotNone(one.wrong(report.replace(" 1 upgrade taken - 0a02 ", " 1 upgrade taken - - ")))
+
+    def upgraded_site(self, one, wants):
+        return refusals.played(one.scenario, [{}, wants, {}]).sites[1]
 
     def test_runs_by_threads_are_checked_with_their_wants(self):
         from test_threaded import worked

@@ -46,7 +46,7 @@ WRONG = [
     ("container 2 list at 0", 4, '"list"', "regular|set", "container N regular|set at SITE"),
     ("client ann at 0", 4, '"ann"', "a client's name that is new", "client NAME at SITE"),
     ("sites 1 tolerated 0", 4, '"sites"', "the sites once", "sites N tolerated F"),
-    ("hello", 4, '"hello"', "one of sites, capacity, areas, room, link, ticks, threads, container, client", None),
+    ("hello", 4, '"hello"', "one of sites, capacity, areas, room, format, link, ticks, threads, container, client", None),
     ("ann start", 4, '"ann"', "a colon behind the client: ann: OPERATION ..", None),
     ("settle all", 4, '"all"', "[SITE]", "settle [SITE]"),
     # Limits of the program.
@@ -135,7 +135,7 @@ class Scripts(unittest.TestCase):
             for lines, place, word, wanted, form in cases:
                 self.is_refused(head + lines, place, f"{word}: wants {wanted}", form)
         self.is_refused("client ann at 0", 1, '"client": wants sites N tolerated F first', None)
-        self.is_refused("sites 9 tolerated 0", 1, '"9": wants a number of sites from 1 to 8', "sites N tolerated F")
+        self.is_refused("sites 17 tolerated 0", 1, '"17": wants a number of sites from 1 to 16', "sites N tolerated F")
         self.is_refused("sites 3 tolerated 3", 1, '"3": wants fewer sites that may be lost than the 3', "sites N tolerated F")
         self.is_refused("# no sites\n\n", 3, "wants sites N tolerated F", None)
 
@@ -148,7 +148,7 @@ class Scripts(unittest.TestCase):
 
     def test_all_lines_that_are_wrong_are_told(self):
         """A line that declares something is read as far as it goes, so that those behind it aren't wrong for its sake."""
-        text = "sites 9 tolerated 0\nclient ann at 8\nann: start\nann: fly\nhello\ncapacity 10\n"
+        text = "sites 17 tolerated 0\nclient ann at 16\nann: start\nann: fly\nhello\ncapacity 10\n"
         with self.assertRaises(scripts.Wrong) as wrong:
             scripts.read(text)
         self.assertEqual([fault.place for fault in wrong.exception.faults], [1, 2, 4, 5, 6])

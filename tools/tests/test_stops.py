@@ -7,10 +7,12 @@ from collections import Counter
 from unittest import mock
 
 from played import run_bench
+import journals
 import model
 import readings
 import rows
 import stops
+from spelled import FORMAT, record_of
 
 SLOW = "a slow commit"
 
@@ -59,6 +61,33 @@ class Stops(unittest.TestCase):
         status, told = self.stop(None, "--model")
         self.assertEqual((status, told.splitlines()[-1]),
                          (False, "12 device calls were stopped, each by the choices 0, 1, 7: played by the model"))
+
+    def test_an_upgrade_is_stopped_at_each_of_its_calls(self):
+        """Of its four calls the third opens the gate: from there on a restart finds it where all is left. What comes behind is in
+        the format in force then."""
+        for name in "an upgrade and restarts", "an upgrade and restarts over two areas":
+            made, found = stops.SCENARIOS[name](), []
+            for choice in rows.CHOICES:
+                for nth, _, run in rows.stopped(made, 1, lambda _, choice=choice: choice):
+                    site = run.sites[1]
+                    entry = next(one for one in site.entries if one.event == "upgrade")
+                    if entry.outcome == "failed":
+                        found.append((nth, choice, site.form))
+                        self.assertEqual(entry.flight, (FORMAT,))
+                        self.assertEqual(self.bodies_on(site), list(self.spelled(site.records)))
+            first = min(nth for nth, _, _ in found)
+            self.assertEqual(sorted(found), [(first + call, choice, 2 if call > 1 and choice == 1 else 1)
+                                             for call in range(4) for choice in rows.CHOICES])
+
+    def bodies_on(self, site):
+        return journals.bodies_of(journals.read(bytes(site.disk.reads), site.capacity, site.count))
+
+    def spelled(self, records):
+        """The records from the first format on, each in the format in force at its place."""
+        form = 1
+        for record in records:
+            yield record_of(record, form)
+            form = 2 if record[0] == FORMAT else form
 
     def test_scenarios_are_right_and_packs_are_stopped(self):
         for name, make in stops.SCENARIOS.items():

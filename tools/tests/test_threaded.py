@@ -148,6 +148,7 @@ class Worked(unittest.TestCase):
         calls = [("call", 0)] * 3
         for made, steps, wanted in [
             (SMALL, [("stop", 0)], "stop at site 0: no threaded run has such an event"),
+            (SMALL, [("upgrade", 0)], "upgrade at site 0: no threaded run has such an event"),
             (SMALL, [("restart", 0)], "restart at site 0: the site is up"),
             (SMALL, [("tick", 0)] * 5, "line 15: tick at site 0: it has made its 4 ticks"),
             (SMALL, [("advance", 0, 1)], "the least that may be committed there is of none"),

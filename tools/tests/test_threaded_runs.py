@@ -42,7 +42,7 @@ class Scenarios(unittest.TestCase):
         self.assertEqual(made, [threaded_runs.scenario(seed) for seed in range(200)])
         for one in made:
             self.assertEqual(readings.read(json.dumps(one).encode())["steps"], [])
-        self.assertEqual({one["sites"] for one in made}, set(range(1, 9)))
+        self.assertTrue({*range(1, 10), 16} <= {one["sites"] for one in made})
         self.assertTrue({1, 2, 8, 32} <= {one["threads"] for one in made})
         for some in (lambda one: "link" in one, lambda one: "arms" in one, lambda one: not one["clients"],
                      lambda one: one["clients"] and len(one["clients"]) * 8 <= one["threads"],
@@ -52,6 +52,13 @@ class Scenarios(unittest.TestCase):
     def test_areas_are_those_that_are_asked_for(self):
         self.assertEqual({threaded_runs.scenario(seed).get("areas") for seed in range(200)}, {None, 1, 2})
         self.assertFalse(any("areas" in threaded_runs.scenario(seed, False) for seed in range(200)))
+
+    def test_formats_are_those_that_are_asked_for(self):
+        self.assertEqual({threaded_runs.scenario(seed).get("format") for seed in range(200)}, {None, 1, 2})
+        for seed in range(200):
+            made, alone = threaded_runs.scenario(seed), threaded_runs.scenario(seed, True, False)
+            self.assertFalse("format" in alone or alone["sites"] > 8)
+            self.assertEqual({**made, "sites": alone["sites"], "format": None}, {**alone, "format": None})
 
     def test_a_full_journal_is_none_of_several_sites_but_where_a_trail_is_to_be_spent(self):
         """There a site might try again and again, which takes long."""
@@ -73,10 +80,17 @@ class Runs(InFolder):
         self.assertRegex(last, r"^3 scenarios from seed 4, each with its threads and with one: 6 of 6 runs accepted, "
                          r"with [\d,]+ entries and 0 spent trails$")
 
-    def test_a_program_that_refuses_areas_has_none(self):
+    def test_a_program_that_refuses_areas_and_formats_has_none(self):
         program = self.program((MODEL + ACCEPTED).replace("sys.exit()", "sys.exit(2)"))
         status, told = run_bench(threaded_runs, "--program", program, "--scenarios", "1", "--seed", "4")
-        self.assertEqual((status, told.splitlines()[0]), (0, "the program refuses the key areas: no scenario has it"))
+        self.assertEqual((status, told.splitlines()[:2]), (0, [f"the program refuses the key {key}: no scenario has it"
+                                                               for key in ("areas", "format")]))
+
+    def test_runs_of_sixteen_sites_are_accepted(self):
+        seed = next(seed for seed in range(200) if threaded_runs.scenario(seed)["sites"] > 12 and threaded_runs.scenario(seed)["clients"])
+        status, told = run_bench(threaded_runs, "--program", self.program(MODEL + ACCEPTED), "--scenarios", "1", "--seed", str(seed))
+        self.assertEqual(status, 0, told)
+        self.assertIn("2 of 2 runs accepted", told)
 
     def test_wrong_runs_are_told(self):
         for text, wanted in [

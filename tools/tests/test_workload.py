@@ -21,7 +21,7 @@ import workloads
 # So many runs of each kind are small; with these of bench/ there are a thousand.
 SMALL = 200
 LOSSY = {"lose": 60, "repeat": 60, "swap": 120}
-FORMS = ({}, {"pumped": True}, {**LOSSY, "stops": 1}, {"sites": 8, "clients": 9}, {"remote": 60, **LOSSY})
+FORMS = ({}, {"pumped": True}, {**LOSSY, "stops": 1}, {"sites": 8, "clients": 9}, {"sites": 16, "clients": 18}, {"remote": 60, **LOSSY})
 
 
 def maker_of(kind, **more):
@@ -111,7 +111,7 @@ class Workload(InFolder):
         self.assertRegex(told, r"aborted: \d+; \d+ over a later version of accounts")
 
     def test_wrong_words(self):
-        for words in ["none"], ["shop", "--sites", "9"], ["shop", "--sites", "0"], ["shop", "--clients", "0"], ["shop", "--remote", "101"], \
+        for words in ["none"], ["shop", "--sites", "17"], ["shop", "--sites", "0"], ["shop", "--clients", "0"], ["shop", "--remote", "101"], \
                 ["shop", "--transactions", "20001"], ["shop", "--scenario", "--summary"], []:
             self.assertEqual(run_tool("workload", *words)[:2], (1, ""))
         with mock.patch.object(workloads, "MOST_EVENTS", 50):
