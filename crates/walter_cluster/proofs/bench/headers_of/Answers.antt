@@ -23,14 +23,14 @@ loop-cell-preserved g c =
     let i = c.loop-cell.cell-index in
     let one = c.cell-item.result in
     let more : take (i + 1) cells ≡ take i cells ++ one ∷ [] =
-        take_more cells i one c.loop-cell-test.true ∙ ap (λ (x : CellValue g.row.D.Denot). take i cells ++ x ∷ []) (sym c.cell-item.is) in
+    take_more cells i one c.loop-cell-test.true ∙ ap (λ (x : CellValue g.row.D.Denot). take i cells ++ x ∷ []) (sym c.cell-item.is) in
     let sites = subst (λ (x : CellValue g.row.D.Denot). x.node.catalog.sites ≡ length cells) (sym c.cell-item.is)
-        (All-get_or (λ (x : CellValue g.row.D.Denot). x.node.catalog.sites ≡ length cells) cells i one c.loop-cell-test.true c.requires) in record {
+    (All-get_or (λ (x : CellValue g.row.D.Denot). x.node.catalog.sites ≡ length cells) cells i one c.loop-cell-test.true c.requires) in record {
       named = map_pushed (λ (x : CellValue g.row.D.Denot). header_of x.node.layout) _ _ _ (take i cells) one c.in_ok-push.ensures.items is.named c.header.ensures.header
           ∙ ap (λ xs. map (λ (x : CellValue g.row.D.Denot). header_of x.node.layout) xs) (sym more);
       places = subst (λ hs. All (λ (h : Header). length cells ≤ most_in h) hs) (sym c.in_ok-push.ensures.items)
           (All-push (λ (h : Header). length cells ≤ most_in h) _ _ is.places
-              (subst (λ (n : ℕ). n ≤ most_in c.header.result) sites c.header.ensures.places));
+          (subst (λ (n : ℕ). n ≤ most_in c.header.result) sites c.header.ensures.places));
     }
 
 pub returns-clause-headers : goal.returns-clause-headers

@@ -9,4 +9,4 @@ headers_of-requires g c =
     let inside = c.self.inside.cells.items in
     subst (λ cells. All (λ (x : CellValue g.row.D.Denot). x.node.catalog.sites ≡ length cells) cells) (sym c.deref.ensures.value)
     (all_each (λ (x : CellValue g.row.D.Denot). x.node.catalog.sites ≡ length inside) inside
-        (λ i x at. (c.self.invariant.0.cells i x at).sites_are))
+    (λ i x at. (c.self.invariant.0.cells i x at).sites_are))
