@@ -620,9 +620,9 @@ def with_formats(seed, made, faults):
 
 
 def with_sites(seed, made):
-    """The scenario with further sites, up to sixteen, in one of eight seeds: they begin late, and take what others have put out."""
+    """The scenario with further sites, up to sixteen, in half of the seeds: they begin late, and take what others have put out."""
     rng, sites = random.Random(f"sites {seed}"), made["sites"]
-    if rng.random() >= 0.125:
+    if rng.random() >= 0.5:
         return made
     more = rng.randint(journals.MOST_OF_FIRST + 1, readings.MOST_SITES)
     steps = []

@@ -1,5 +1,5 @@
 #!/usr/bin/env python3
-"""Plays worked runs of several sites in the plain model of model.py, step by step, and says which of them it answers
+"""Plays worked runs, most of several sites, in the plain model of model.py, step by step, and says which of them it answers
 otherwise. Each step has what is to come of it, told by hand: a reply, or an outcome with the record and what is put out.
 Then it plays the runs that the program is tested by, those with a stop at each device call among them, and compares what it
 writes of each with what the program is to write. Ends with status 1 where something isn't met.

@@ -176,7 +176,8 @@ class Areas(unittest.TestCase):
     def test_what_is_left_follows_from_the_trail(self):
         """Packed are all records before the last restart that ended well, and in one that doesn't all that there are."""
         met = Counter()
-        for seed in RANDOM:
+        # An advance that finds a journal of one area full is rare.
+        for seed in range(320):
             for site in played(random_scenario(seed)).sites:
                 self.check_left(site, met)
         for areas in 1, 2:
