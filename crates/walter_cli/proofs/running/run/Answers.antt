@@ -189,12 +189,11 @@ write_result-requires-clause-headers g c =
     let long : length c.deref.result.now ≡ length c.drive-bench.result.0.cells =
     ap length (c.deref.ensures.value ∙ c.close-trails.ensures.gives.trails)
     ∙ length-map c.drive-bench.result.0.cells (λ (x : CellValue g.row.R-D.Denot). x.node.trail) in
-    let given = c.deref-2.ensures.value in
-    (
+    let given = c.deref-2.ensures.value in (
       ap length (given ∙ named.headers)
-      ∙ length-map c.drive-bench.result.0.cells (λ (x : CellValue g.row.R-D.Denot). header_of x.node.layout) ∙ sym long,
+          ∙ length-map c.drive-bench.result.0.cells (λ (x : CellValue g.row.R-D.Denot). header_of x.node.layout) ∙ sym long,
       subst (λ n. All (λ (h : Format). n ≤ most_in h) c.deref-2.result.now) (sym long)
-      (subst (λ hs. All (λ (h : Format). length c.drive-bench.result.0.cells ≤ most_in h) hs) (sym given) named.places),
+          (subst (λ hs. All (λ (h : Format). length c.drive-bench.result.0.cells ≤ most_in h) hs) (sym given) named.places),
     )
 
 pub write_result-requires-clause-records : goal.write_result-requires-clause-records
