@@ -86,7 +86,7 @@ fn again(alloc: Global, text: &str, merged: &[(SiteId, Entry)]) -> Result<Option
         bail!("no scenario");
     };
     let mut clients = frames_of(alloc, &scenario)?;
-    let mut world = World::new(alloc, &scenario.catalog)?;
+    let mut world = World::new(alloc, &scenario.catalog, scenario.format)?;
     for (site, entry) in merged {
         if !can_stand(entry) {
             return Ok(None);

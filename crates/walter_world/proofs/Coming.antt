@@ -3,7 +3,7 @@ use Rattle.std.proofs.Common.{◌≡◌, ℕ, Bool, true, false, List, [], Optio
 use Rattle.std.specs.Prelude.{◌≢◌, IfSome, IsSome, All, is_some}
 use Rattle.std.proofs.lemmas.List.Elements.{All-nil}
 use Rattle.walter_base.specs.declared.catalog.Catalog.{Catalog}
-use Rattle.walter_base.specs.declared.format.Format.TheVariants.{First}
+use Rattle.walter_base.specs.declared.format.Format.{Format}
 use Rattle.walter_base.specs.declared.message.Record.{Record}
 use Rattle.walter_base.specs.declared.names.SiteId.{SiteId}
 use Rattle.walter_machine.specs.declared.machine.Machine.{Machine}
@@ -68,17 +68,18 @@ broken_by Broken event x came is comes = by x.wrote is comes
 pub none_spelled : (sites : ℕ) (came : Came) → came.sends ≡ [] → AreSpelled sites came
 none_spelled sites came none = subst (All (λ s. HasPacketSpelling sites s.1)) (sym none) (All-nil (λ s. HasPacketSpelling sites s.1))
 
-module _ (catalog : Catalog) (i : SiteId) (site : Option Tables) (S : Standing) (event : Event) (ready : Ready) (fate : Fate)
-    (came : Came) (is : IsReadyFor First catalog i site S event ready) where
+module _ (format : Format) (catalog : Catalog) (i : SiteId) (site : Option Tables) (S : Standing) (event : Event)
+    (ready : Ready) (fate : Fate) (came : Came) (is : IsReadyFor format catalog i site S event ready) where
   -- its record is stable, or it has none
-  pub comes_stable : breaks fate (rec_in ready) ≡ false → came ≡ came_in ready → came ≡ comes_to catalog i S event None fate
+  pub comes_stable : breaks fate (rec_in ready) ≡ false → came ≡ came_in ready
+      → came ≡ comes_to format catalog i S event None fate
   comes_stable whole comes =
       comes ∙ (sym (stable_by fate event (expected_by (step_in ready)) whole) ∙ ap (came_by fate event None) is.rule)
 
   -- it is in flight
   pub comes_broken : breaks fate (rec_in ready) ≡ true
       → IfSome (rec_in ready) (λ rec. came ≡ record (only (failure event rec)) { flight = Some rec })
-      → came ≡ comes_to catalog i S event None fate
+      → came ≡ comes_to format catalog i S event None fate
   comes_broken falls comes =
       broken_by fate event (expected_by (step_in ready)) came falls comes ∙ ap (came_by fate event None) is.rule
 
@@ -122,28 +123,31 @@ at_new old new P same p =
     subst (λ (c : Catalog). P c (site_in new)) (sym same.catalog) (subst (P (catalog_in old)) (sym same.id) p)
 
 -- so it is ready, and comes
-abbrev IsReadyAt : Machine → Standing → Event → Ready → Type 0
-IsReadyAt m S event ready = IsReadyFor First (catalog_in m) (site_in m) (tables_in m) S event ready
+abbrev IsReadyAt : Format → Machine → Standing → Event → Ready → Type 0
+IsReadyAt format m S event ready = IsReadyFor format (catalog_in m) (site_in m) (tables_in m) S event ready
 
-abbrev Comes : Machine → Ready → Event → Fate → Came → Machine → Type 0
-Comes m ready event fate came new = (S : Standing) → HasStanding m S → IsCounted m S (rec_in ready)
-    → IsReadyAt m S event ready → HasCome (catalog_in m) (site_in m) S event None fate came new
+abbrev Comes : Format → Machine → Ready → Event → Fate → Came → Machine → Type 0
+Comes format m ready event fate came new = (S : Standing) → HasStanding m S → IsCounted m S (rec_in ready)
+    → IsReadyAt format m S event ready → HasCome format (catalog_in m) (site_in m) S event None fate came new
 
-pub given : (seat : Seat) (n new : Machine) (event : Event) (keeps : Bool) (fate : Fate) (ready : Ready) (came : Came)
+pub given : (format : Format) (seat : Seat) (n new : Machine) (event : Event) (keeps : Bool) (fate : Fate)
+    (ready : Ready) (came : Came)
     → IsSeat (catalog_in seat.machine) (site_in seat.machine) seat → is_up seat.machine ≡ true
     → IsSameSite seat.machine n → HasStanding n (standing_of seat)
-    → IsReadyFor First (catalog_in seat.machine) (site_in seat.machine) (tables_in n) (standing_of seat) event ready
-    → Comes n ready event fate came new
-    → HasCome (catalog_in seat.machine) (site_in seat.machine) (standing_of seat) event (found_by keeps (standing_of seat)) fate
-    came new
-given seat n new event keeps fate ready came seat_is raised same stands is comes =
+    → IsReadyFor format (catalog_in seat.machine) (site_in seat.machine) (tables_in n) (standing_of seat) event ready
+    → Comes format n ready event fate came new
+    → HasCome format (catalog_in seat.machine) (site_in seat.machine) (standing_of seat) event
+    (found_by keeps (standing_of seat)) fate came new
+given format seat n new event keeps fate ready came seat_is raised same stands is comes =
     let S : Standing = standing_of seat in
     let up : S.up ≡ true = up_is S seat.machine.site seat_is.stands.state ∙ raised in
-    subst (λ (f : Option Record). HasCome (catalog_in seat.machine) (site_in seat.machine) S event f fate came new)
+    subst
+    (λ (f : Option Record). HasCome format (catalog_in seat.machine) (site_in seat.machine) S event f fate came new)
     (sym (found_up keeps S up))
-    (at_old seat.machine n (λ (c : Catalog). λ (i : SiteId). HasCome c i S event None fate came new) same
+    (at_old seat.machine n (λ (c : Catalog). λ (i : SiteId). HasCome format c i S event None fate came new) same
     (comes S stands (counted n S (rec_in ready) stands up)
-    (at_new seat.machine n (λ (c : Catalog). λ (i : SiteId). IsReadyFor First c i (tables_in n) S event ready) same is)))
+    (at_new seat.machine n (λ (c : Catalog). λ (i : SiteId). IsReadyFor format c i (tables_in n) S event ready)
+    same is)))
 
 -- ---- where it is down, and isn't to come up
 
@@ -157,26 +161,27 @@ breaks_none : (fate : Fate) → breaks fate None ≡ false
 breaks_none Fine = refl
 breaks_none Broken = refl
 
-pub declined : (seat : Seat) (event : Event) (keeps : Bool) (fate : Fate) (came : Came)
+pub declined : (format : Format) (seat : Seat) (event : Event) (keeps : Bool) (fate : Fate) (came : Came)
     → CanTake (catalog_in seat.machine) (site_in seat.machine) seat event keeps → is_up seat.machine ≡ false
     → event ≢ Restart → came ≡ only came.outcome
-    → ((S : Standing) → S.up ≡ false → came.outcome ≡ (rule First (catalog_in seat.machine) (site_in seat.machine) S event).outcome)
+    → ((S : Standing) → S.up ≡ false
+    → came.outcome ≡ (rule format (catalog_in seat.machine) (site_in seat.machine) S event).outcome)
     → ((S : Standing) → HasStanding seat.machine S
     → HasStanding seat.machine (stands_after (catalog_in seat.machine) (site_in seat.machine) S event came))
-    → HasCome (catalog_in seat.machine) (site_in seat.machine) (standing_of seat) event (found_by keeps (standing_of seat)) fate
-    came seat.machine
-declined seat event keeps fate came can fallen stays is ruled stands =
+    → HasCome format (catalog_in seat.machine) (site_in seat.machine) (standing_of seat) event
+    (found_by keeps (standing_of seat)) fate came seat.machine
+declined format seat event keeps fate came can fallen stays is ruled stands =
     let S : Standing = standing_of seat in
     let c : Catalog = catalog_in seat.machine in
     let i : SiteId = site_in seat.machine in
     let down : S.up ≡ false = up_is S seat.machine.site can.seat_is.stands.state ∙ fallen in
-    let alone = (rests First c i S event down stays).alone in
-    subst (λ (f : Option Record). HasCome c i S event f fate came seat.machine)
+    let alone = (rests format c i S event down stays).alone in
+    subst (λ (f : Option Record). HasCome format c i S event f fate came seat.machine)
     (sym (finds_nothing event keeps S can.finds stays)) (record {
       catalog_is = refl;
       site = refl;
       came_is = is ∙ (ap only (ruled S down)
-          ∙ (sym (stable_by fate event (expects (rule First c i S event).outcome) (breaks_none fate))
+          ∙ (sym (stable_by fate event (expects (rule format c i S event).outcome) (breaks_none fate))
           ∙ ap (came_by fate event None) (sym alone)));
       stands = stands S can.seat_is.stands;
       spelled = none_spelled c.sites came (ap (λ (x : Came). x.sends) is);
@@ -184,14 +189,15 @@ declined seat event keeps fate came can fallen stays is ruled stands =
 
 -- ---- where one is
 
-pub risen : (catalog : Catalog) (i : SiteId) (S : Standing) (found kept : Option Record) (fate : Fate) (came : Came)
-    (m : Machine) → kept ≡ found → HasCome catalog i (settled catalog i found S) Restart None fate came m
-    → HasCome catalog i S Restart found fate (record came { kept = kept }) m
-risen catalog i S found kept fate came m same has = record {
+pub risen : (format : Format) (catalog : Catalog) (i : SiteId) (S : Standing) (found kept : Option Record)
+    (fate : Fate) (came : Came)
+    (m : Machine) → kept ≡ found → HasCome format catalog i (settled catalog i found S) Restart None fate came m
+    → HasCome format catalog i S Restart found fate (record came { kept = kept }) m
+risen format catalog i S found kept fate came m same has = record {
   catalog_is = has.catalog_is;
   site = has.site;
   came_is = (λ j. record (has.came_is j) { kept = same j })
-      ∙ kept_too fate Restart found (rule First catalog i (settled catalog i found S) Restart);
+      ∙ kept_too fate Restart found (rule format catalog i (settled catalog i found S) Restart);
   stands = has.stands;
   spelled = has.spelled;
 }
@@ -235,18 +241,18 @@ tells_young seat keeps told can down tells =
       young c can.layout i (reverse seat.entries.items) can.right can.young rests are.told found (found_there keeps S),
     )
 
-pub raised : (seat : Seat) (m n new : Machine) (keeps : Bool) (fate : Fate) (told : Recovery) (ready : Ready)
-    (kept : Option Record) (came : Came) → is_up seat.machine ≡ false
+pub raised : (format : Format) (seat : Seat) (m n new : Machine) (keeps : Bool) (fate : Fate) (told : Recovery)
+    (ready : Ready) (kept : Option Record) (came : Came) → is_up seat.machine ≡ false
     → IsSeat (catalog_in seat.machine) (site_in seat.machine) seat
     → IsTold (catalog_in seat.machine) (site_in seat.machine)
     (settled (catalog_in seat.machine) (site_in seat.machine) (found_by keeps (standing_of seat)) (standing_of seat)).records told
     → IsSameSite seat.machine m → IsSameSite m n → tables_in n ≡ None → Settles (standing_of seat) told.count kept n
     → ((S : Standing) → S.up ≡ false → Stands told.tables S.knows
-    → IsReadyFor First (catalog_of told.tables) (site_of told.tables) None S Restart ready)
-    → Comes n ready Restart fate came new
-    → HasCome (catalog_in seat.machine) (site_in seat.machine) (standing_of seat) Restart
+    → IsReadyFor format (catalog_of told.tables) (site_of told.tables) None S Restart ready)
+    → Comes format n ready Restart fate came new
+    → HasCome format (catalog_in seat.machine) (site_in seat.machine) (standing_of seat) Restart
     (found_by keeps (standing_of seat)) fate (record came { kept = kept }) new
-raised seat m n new keeps fate told ready kept came down is tells same then none settles readies comes =
+raised format seat m n new keeps fate told ready kept came down is tells same then none settles readies comes =
     let S : Standing = standing_of seat in
     let c : Catalog = catalog_in seat.machine in
     let i : SiteId = site_in seat.machine in
@@ -258,13 +264,14 @@ raised seat m n new keeps fate told ready kept came down is tells same then none
     subst (λ (f : Option Record). HasStanding n (settled c i f S)) kept_is
     (at_old seat.machine m (λ (x : Catalog). λ (j : SiteId). HasStanding n (settled x j kept S)) same
     (at_old m n (λ (x : Catalog). λ (j : SiteId). HasStanding n (settled x j kept S)) then settles.stands)) in
-    let made : IsReadyFor First (catalog_of told.tables) (site_of told.tables) None T Restart ready =
+    let made : IsReadyFor format (catalog_of told.tables) (site_of told.tables) None T Restart ready =
     readies T (still_down c i S found rests)
     (subst (λ (K : Knowledge). Stands told.tables K) (sym (found_knows c i S rests is.stands.told found)) tells.stands) in
-    let there : IsReadyAt n T Restart ready =
-    at_raised seat m n told T.records (λ (x : Catalog). λ (j : SiteId). λ (t : Option Tables). IsReadyFor First x j t T Restart ready)
+    let there : IsReadyAt format n T Restart ready =
+    at_raised seat m n told T.records
+    (λ (x : Catalog). λ (j : SiteId). λ (t : Option Tables). IsReadyFor format x j t T Restart ready)
     tells same then none made in
-    risen c i S found kept fate came new kept_is
-    (at_old seat.machine m (λ (x : Catalog). λ (j : SiteId). HasCome x j T Restart None fate came new) same
-    (at_old m n (λ (x : Catalog). λ (j : SiteId). HasCome x j T Restart None fate came new) then
+    risen format c i S found kept fate came new kept_is
+    (at_old seat.machine m (λ (x : Catalog). λ (j : SiteId). HasCome format x j T Restart None fate came new) same
+    (at_old m n (λ (x : Catalog). λ (j : SiteId). HasCome format x j T Restart None fate came new) then
     (comes T stands (counted_all n T (rec_in ready) (settles.counted ∙ tells.count)) there)))

@@ -5,7 +5,6 @@ use Rattle.std.proofs.lemmas.Bool.{cases_eq, cases_lt}
 use Rattle.std.proofs.lemmas.List.{get_or_past, reverse-append, take_all, take-append-le}
 use Rattle.walter_base.specs.declared.catalog.Catalog.{Catalog}
 use Rattle.walter_base.specs.declared.format.Format.{Format}
-use Rattle.walter_base.specs.declared.format.Format.TheVariants.{First}
 use Rattle.walter_base.specs.declared.message.Record.{Record}
 use Rattle.walter_base.specs.declared.message.Record.TheVariants.{Boot}
 use Rattle.walter_base.specs.declared.names.SiteId.{SiteId}
@@ -20,7 +19,7 @@ use Rattle.walter_rules.specs.declared.event.Event.TheVariants.{Given, Restart}
 use Rattle.walter_rules.specs.declared.event.Input.TheVariants.{Deliver}
 use Rattle.walter_rules.specs.Calls.{Expected}
 use Rattle.walter_rules.specs.Knowledge.{site_at}
-use Rattle.walter_rules.specs.Layouts.{FitsIn, need_of, need_there, one_area, placed}
+use Rattle.walter_rules.specs.Layouts.{FitsIn, in_force, need_of, need_there, one_area, placed}
 use Rattle.walter_rules.specs.Merges.{Stamped, sent_to, put_out_to, trail_of, IsLinked, AreLinked}
 use Rattle.walter_rules.specs.Rule.{rule}
 use Rattle.walter_rules.specs.Standing.{Standing, settled}
@@ -44,31 +43,33 @@ abbrev need_any : Format → Option Record → ℕ
 need_any format None = 0
 need_any format (Some rec) = need_of format rec
 
-abbrev place_for : Standing → Option Record → ℕ
-place_for S wrote = 9 + sum_by need_there (placed First S.records) + need_any S.knows.format wrote
+abbrev place_for : Format → Standing → Option Record → ℕ
+place_for format S wrote =
+    9 + sum_by need_there (placed format S.records) + need_any (in_force format S.knows.format) wrote
 
-fits_any : (capacity : ℕ) (S : Standing) (wrote : Option Record) → place_for S wrote ≤ capacity
-    → IfSome wrote (FitsIn (one_area capacity First) S)
-fits_any capacity S None enough = tt
-fits_any capacity S (Some rec) enough = omega (arith, enough)
+fits_any : (format : Format) (capacity : ℕ) (S : Standing) (wrote : Option Record) → place_for format S wrote ≤ capacity
+    → IfSome wrote (FitsIn (one_area capacity format) S)
+fits_any format capacity S None enough = tt
+fits_any format capacity S (Some rec) enough = omega (arith, enough)
 
-module _ (catalog : Catalog) (capacity : ℕ) (i : SiteId) (T : Standing) (event : Event) (kept : Option Record)
-    (enough : place_for T (rule First catalog i T event).wrote ≤ capacity) where
+module _ (format : Format) (catalog : Catalog) (capacity : ℕ) (i : SiteId) (T : Standing) (event : Event)
+    (kept : Option Record) (enough : place_for format T (rule format catalog i T event).wrote ≤ capacity) where
   abbrev x : Expected
-  x = rule First catalog i T event
+  x = rule format catalog i T event
 
-  comes_fine : Comes catalog (one_area capacity First) i T event (came_by Fine event kept x)
-  comes_fine = ruled (fits_any capacity T x.wrote enough)
+  comes_fine : Comes catalog (one_area capacity format) i T event (came_by Fine event kept x)
+  comes_fine = ruled (fits_any format capacity T x.wrote enough)
       (record { outcome = refl; wrote = refl; flight = refl; sends = put_all T.carried x.sends })
 
   comes_broken : (wrote : Option Record) → x.wrote ≡ wrote
-      → Comes catalog (one_area capacity First) i T event (came_broken event kept x wrote)
+      → Comes catalog (one_area capacity format) i T event (came_broken event kept x wrote)
   comes_broken None is = comes_fine
   comes_broken (Some rec) is =
-      met_fault rec is (subst (λ (w : Option Record). IfSome w (FitsIn (one_area capacity First) T)) is (fits_any capacity T x.wrote enough))
+      met_fault rec is (subst (λ (w : Option Record). IfSome w (FitsIn (one_area capacity format) T)) is
+      (fits_any format capacity T x.wrote enough))
       (record { outcome_is = refl; wrote = refl; flight_is = refl; sends = refl; dropped = refl })
 
-  comes_by : (fate : Fate) → Comes catalog (one_area capacity First) i T event (came_by fate event kept x)
+  comes_by : (fate : Fate) → Comes catalog (one_area capacity format) i T event (came_by fate event kept x)
   comes_by Fine = comes_fine
   comes_by Broken = comes_broken x.wrote refl
 
@@ -111,8 +112,8 @@ module _ (trails : List (List Entry)) (i : SiteId) where
   found_by_event what event put S a_stop = tt
   found_by_event what event put S (a_restart kept) = found_there kept S
 
-module _ (catalog : Catalog) (trails : List (List Entry)) (i : SiteId) (trail : List Entry) (what : What) (event : Event)
-    (put : ℕ) (fate : Fate) (brings : Brings trails i what event put) where
+module _ (format : Format) (catalog : Catalog) (trails : List (List Entry)) (i : SiteId) (trail : List Entry)
+    (what : What) (event : Event) (put : ℕ) (fate : Fate) (brings : Brings trails i what event put) where
   abbrev S : Standing
   S = standing catalog i (reverse trail)
 
@@ -123,31 +124,33 @@ module _ (catalog : Catalog) (trails : List (List Entry)) (i : SiteId) (trail : 
   T = settled catalog i kept S
 
   abbrev e : Entry
-  e = entry_of catalog i trail event put (keeps what) fate
+  e = entry_of format catalog i trail event put (keeps what) fate
 
   -- where a journal has place for it
   abbrev pub enough_for : ℕ
-  enough_for = place_for T (rule First catalog i T event).wrote
+  enough_for = place_for format T (rule format catalog i T event).wrote
 
-  pub right_entry : (capacity : ℕ) → enough_for ≤ capacity → IsRightEntry catalog (one_area capacity First) i (reverse trail) e
+  pub right_entry : (capacity : ℕ) → enough_for ≤ capacity
+      → IsRightEntry catalog (one_area capacity format) i (reverse trail) e
   right_entry capacity enough =
-      let same : e.came.kept ≡ kept = came_kept fate event kept (rule First catalog i T event) in
+      let same : e.came.kept ≡ kept = came_kept fate event kept (rule format catalog i T event) in
       record {
         stamp = next_stamp trails i what event put (clock (reverse trail)) brings;
         kept = subst (λ (k : Option Record). IfSome k (IsFound S event)) (sym same)
             (found_by_event trails i what event put S brings);
-        comes = subst (λ (k : Option Record). Comes catalog (one_area capacity First) i (settled catalog i k S) event e.came) (sym same)
-            (comes_by catalog capacity i T event kept enough fate);
+        comes = subst
+            (λ (k : Option Record). Comes catalog (one_area capacity format) i (settled catalog i k S) event e.came)
+            (sym same) (comes_by format catalog capacity i T event kept enough fate);
       }
 
-  pub right_trail : (capacity : ℕ) → enough_for ≤ capacity → IsRightTrail catalog (one_area capacity First) i trail
-      → IsRightTrail catalog (one_area capacity First) i (trail ++ e ∷ [])
+  pub right_trail : (capacity : ℕ) → enough_for ≤ capacity → IsRightTrail catalog (one_area capacity format) i trail
+      → IsRightTrail catalog (one_area capacity format) i (trail ++ e ∷ [])
   right_trail capacity enough right = record {
     opening = right.opening;
     begins = slice_get-append_left trail (e ∷ []) right.opening 0 right.begins;
     opens = right.opens;
-    right = subst (λ (es : List Entry). AreRight catalog (one_area capacity First) i es) (sym (reverse-append trail (e ∷ [])))
-        (right.right, right_entry capacity enough);
+    right = subst (λ (es : List Entry). AreRight catalog (one_area capacity format) i es)
+        (sym (reverse-append trail (e ∷ []))) (right.right, right_entry capacity enough);
   }
 
 -- ---- all trails
@@ -155,12 +158,13 @@ module _ (catalog : Catalog) (trails : List (List Entry)) (i : SiteId) (trail : 
 same_site_by : (i j : SiteId) → i.0 ≡ j.0 → i ≡ j
 same_site_by i j is = ap site_at is
 
-module _ (catalog : Catalog) (old new : List (List Entry)) (w : WorldEvent) (happened : HasHappened catalog old w new) where
+module _ (format : Format) (catalog : Catalog) (old new : List (List Entry)) (w : WorldEvent)
+    (happened : HasHappened format catalog old w new) where
   abbrev s : SiteId
   s = w.site
 
   abbrev own : Entry
-  own = entry_of catalog s (trail_of old s) happened.event happened.put (keeps w.what) w.fate
+  own = entry_of format catalog s (trail_of old s) happened.event happened.put (keeps w.what) w.fate
 
   -- what was put out stands where it stood
   put_stays : (i j : SiteId) (place : ℕ) (st : Stamped) → slice_get (put_out_to i (trail_of old j)) place ≡ Some st
@@ -263,9 +267,11 @@ module _ (catalog : Catalog) (old new : List (List Entry)) (w : WorldEvent) (hap
       ]
 
   -- where there was place enough for all so far, and there is for the entry's record, they stay right and linked
-  pub right_more : w.site.0 < catalog.sites → AreRightWithPlace catalog old → AreRightWithPlace catalog new
+  pub right_more : w.site.0 < catalog.sites → AreRightWithPlace format catalog old
+      → AreRightWithPlace format catalog new
   right_more below before = record {
-    enough = max before.enough (enough_for catalog old s (trail_of old s) w.what happened.event happened.put w.fate happened.brings);
+    enough = max before.enough
+        (enough_for format catalog old s (trail_of old s) w.what happened.event happened.put w.fate happened.brings);
     right = λ capacity enough.
         let are = before.right capacity (omega (arith, enough)) in
         record {
@@ -273,12 +279,12 @@ module _ (catalog : Catalog) (old new : List (List Entry)) (w : WorldEvent) (hap
           right = λ i within. elim (cases_eq i.0 s.0) [
             | inl here ↦
                 let site : i ≡ s = same_site_by i s here in
-                subst (λ (k : SiteId). IsRightTrail catalog (one_area capacity First) k (trail_of new k)) (sym site)
-                (subst (λ (t : List Entry). IsRightTrail catalog (one_area capacity First) s t) (sym happened.here)
-                (right_trail catalog old s (trail_of old s) w.what happened.event happened.put w.fate happened.brings capacity
-                (omega (arith, enough)) (are.right s below)))
+                subst (λ (k : SiteId). IsRightTrail catalog (one_area capacity format) k (trail_of new k)) (sym site)
+                (subst (λ (t : List Entry). IsRightTrail catalog (one_area capacity format) s t) (sym happened.here)
+                (right_trail format catalog old s (trail_of old s) w.what happened.event happened.put w.fate
+                happened.brings capacity (omega (arith, enough)) (are.right s below)))
             | inr there ↦
-                subst (λ (t : List Entry). IsRightTrail catalog (one_area capacity First) i t)
+                subst (λ (t : List Entry). IsRightTrail catalog (one_area capacity format) i t)
                 (sym (happened.others i (λ same. there (ap (λ (k : SiteId). k.0) same)))) (are.right i within)
           ];
           linked = linked_more are.linked;
@@ -287,33 +293,37 @@ module _ (catalog : Catalog) (old new : List (List Entry)) (w : WorldEvent) (hap
 
 -- ---- what they promise
 
-pub promises : (catalog : Catalog) (trails : List (List Entry)) → IsWhole catalog → AreRightWithPlace catalog trails
-    → KeepPromises catalog trails
-promises catalog trails whole right =
+pub promises : (format : Format) (catalog : Catalog) (trails : List (List Entry)) → IsWhole catalog
+    → AreRightWithPlace format catalog trails → KeepPromises format catalog trails
+promises format catalog trails whole right =
     let capacity = right.enough in
-    let are : AreRightTrails catalog (λ k. one_area capacity First) trails = right.right capacity (omega arith) in
+    let are : AreRightTrails catalog (λ k. one_area capacity format) trails = right.right capacity (omega arith) in
     record {
       right_trails = right;
-      legal_history = trails_legal catalog (λ k. one_area capacity First) whole trails are;
-      commits_once = trails_once catalog (λ k. one_area capacity First) whole trails are;
-      got_right = trails_got catalog (λ k. one_area capacity First) whole trails are;
-      aborts_named = trails_named catalog (λ k. one_area capacity First) whole trails are;
-      marks_true = trails_marks catalog (λ k. one_area capacity First) whole trails are;
+      legal_history = trails_legal catalog (λ k. one_area capacity format) whole trails are;
+      commits_once = trails_once catalog (λ k. one_area capacity format) whole trails are;
+      got_right = trails_got catalog (λ k. one_area capacity format) whole trails are;
+      aborts_named = trails_named catalog (λ k. one_area capacity format) whole trails are;
+      marks_true = trails_marks catalog (λ k. one_area capacity format) whole trails are;
     }
 
 -- ---- from the openings on
 
-module _ (catalog : Catalog) where
+module _ (format : Format) (catalog : Catalog) where
   abbrev first : SiteId → Entry
-  first i = entry_of catalog i [] Restart 0 false Fine
+  first i = entry_of format catalog i [] Restart 0 false Fine
 
-  opening_right : (capacity : ℕ) (i : SiteId) → 9 + need_of First (Boot 1) ≤ capacity
-      → IsRightTrail catalog (one_area capacity First) i (first i ∷ [])
+  opening_right : (capacity : ℕ) (i : SiteId) → 9 + need_of format (Boot 1) ≤ capacity
+      → IsRightTrail catalog (one_area capacity format) i (first i ∷ [])
   opening_right capacity i enough = record {
     opening = first i;
     begins = refl;
     opens = record { stamp = refl; event = refl; wrote = refl };
-    right = (tt, right_entry catalog [] i [] (what.Restart false) Restart 0 Fine (a_restart false) capacity enough);
+    right = (
+      tt,
+      right_entry format catalog [] i [] (what.Restart false) Restart 0 Fine (a_restart false)
+          capacity enough,
+    );
   }
 
   none_delivered : (i : SiteId) (place : ℕ) (e : Entry) (j : SiteId) (number : ℕ) (packet : Packet)
@@ -324,13 +334,14 @@ module _ (catalog : Catalog) where
       absurd cc
   none_delivered i (suc place) e j number packet at is = absurd cc
 
-  pub openings_right : (trails : List (List Entry)) → AreOpenings catalog trails → AreRightWithPlace catalog trails
+  pub openings_right : (trails : List (List Entry)) → AreOpenings format catalog trails
+      → AreRightWithPlace format catalog trails
   openings_right trails are = record {
-    enough = 9 + need_of First (Boot 1);
+    enough = 9 + need_of format (Boot 1);
     right = λ capacity enough. record {
       one_each = are.one_each;
-      right = λ i below. subst (λ (t : List Entry). IsRightTrail catalog (one_area capacity First) i t) (sym (are.opens i below))
-          (opening_right capacity i enough);
+      right = λ i below. subst (λ (t : List Entry). IsRightTrail catalog (one_area capacity format) i t)
+          (sym (are.opens i below)) (opening_right capacity i enough);
       linked = λ i place e j number packet at is. elim (cases_lt i.0 catalog.sites) [
         | inl below ↦ absurd (none_delivered i place e j number packet
             (ap (λ (t : List Entry). slice_get t place) (sym (are.opens i below)) ∙ at) is)
@@ -343,18 +354,22 @@ module _ (catalog : Catalog) where
     };
   }
 
-pub step_right : (catalog : Catalog) (old new : List (List Entry)) (e : WorldEvent) → e.site.0 < catalog.sites
-    → AreRightWithPlace catalog old → StepsTo catalog old e new → AreRightWithPlace catalog new
-step_right catalog old new e below right (inl same) = subst (AreRightWithPlace catalog) (sym same.1) right
-step_right catalog old new e below right (inr happened) = right_more catalog old new e happened below right
+pub step_right : (format : Format) (catalog : Catalog) (old new : List (List Entry)) (e : WorldEvent)
+    → e.site.0 < catalog.sites
+    → AreRightWithPlace format catalog old → StepsTo format catalog old e new → AreRightWithPlace format catalog new
+step_right format catalog old new e below right (inl same) = subst (AreRightWithPlace format catalog) (sym same.1) right
+step_right format catalog old new e below right (inr happened) =
+    right_more format catalog old new e happened below right
 
-events_right : (catalog : Catalog) (first : List (List Entry)) (events : List WorldEvent) (last : List (List Entry))
-    → AreOpenings catalog first → HaveHappened catalog first events last → AreRightWithPlace catalog last
-events_right catalog first events last are nothing = openings_right catalog first are
-events_right catalog first events last are (one_more before e old new happened below steps) =
-    step_right catalog old new e below (events_right catalog first before old are happened) steps
+events_right : (format : Format) (catalog : Catalog) (first : List (List Entry)) (events : List WorldEvent)
+    (last : List (List Entry)) → AreOpenings format catalog first → HaveHappened format catalog first events last
+    → AreRightWithPlace format catalog last
+events_right format catalog first events last are nothing = openings_right format catalog first are
+events_right format catalog first events last are (one_more before e old new happened below steps) =
+    step_right format catalog old new e below (events_right format catalog first before old are happened) steps
 
-pub events_promise : (catalog : Catalog) (first last : List (List Entry)) (events : List WorldEvent) → IsWhole catalog
-    → AreOpenings catalog first → HaveHappened catalog first events last → KeepPromises catalog last
-events_promise catalog first last events whole are happened =
-    promises catalog last whole (events_right catalog first events last are happened)
+pub events_promise : (format : Format) (catalog : Catalog) (first last : List (List Entry)) (events : List WorldEvent)
+    → IsWhole catalog → AreOpenings format catalog first → HaveHappened format catalog first events last
+    → KeepPromises format catalog last
+events_promise format catalog first last events whole are happened =
+    promises format catalog last whole (events_right format catalog first events last are happened)

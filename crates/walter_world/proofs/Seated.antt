@@ -6,7 +6,7 @@ use Rattle.std.proofs.lemmas.List.{length-map, length-set, get_or-set_same, get_
 use Rattle.std.proofs.lemmas.List.Elements.{All-push}
 use Rattle.std.proofs.lemmas.Option.{slice_get-map, slice_get-get_or, slice_get_past, unwrap_or-slice_get}
 use Rattle.walter_base.specs.declared.catalog.Catalog.{Catalog}
-use Rattle.walter_base.specs.declared.format.Format.TheVariants.{First}
+use Rattle.walter_base.specs.declared.format.Format.{Format}
 use Rattle.walter_base.specs.declared.message.Record.{Record}
 use Rattle.walter_base.specs.declared.names.SiteId.{SiteId}
 use Rattle.walter_machine.specs.declared.machine.Machine.{Machine}
@@ -33,17 +33,18 @@ use Rattle.walter_world.proofs.SeatTrails.{trail_here}
 -- ---- one site
 
 -- what an event leaves of it
-pub seat_more : (catalog : Catalog) (i : SiteId) (old new : Seat) (e : Entry) (keep : Bool) (fate : Fate)
-    → IsSeat catalog i old
-    → HasCome catalog i (standing catalog i (reverse old.entries.items)) e.event
+pub seat_more : (format : Format) (catalog : Catalog) (i : SiteId) (old new : Seat) (e : Entry) (keep : Bool)
+    (fate : Fate) → IsSeat catalog i old
+    → HasCome format catalog i (standing catalog i (reverse old.entries.items)) e.event
     (found_by keep (standing catalog i (reverse old.entries.items))) fate e.came new.machine
     → new.entries.items ≡ old.entries.items ++ e ∷ [] → IsSeat catalog i new
-seat_more catalog i old new e keep fate is has entries =
+seat_more format catalog i old new e keep fate is has entries =
     let trail = old.entries.items in
     let S : Standing = standing catalog i (reverse trail) in
     let kept : Option Record = found_by keep S in
     let kept_is : e.came.kept ≡ kept =
-    ap (λ (c : Came). c.kept) has.came_is ∙ came_kept fate e.event kept (rule First catalog i (settled catalog i kept S) e.event) in
+    ap (λ (c : Came). c.kept) has.came_is ∙ came_kept fate e.event kept
+    (rule format catalog i (settled catalog i kept S) e.event) in
     let stands : standing catalog i (reverse new.entries.items)
     ≡ stands_after catalog i (settled catalog i kept S) e.event e.came =
     ap (λ (t : List Entry). standing catalog i (reverse t)) entries
@@ -145,11 +146,11 @@ module _ (seats : List Seat) (i : ℕ) (within : i < length seats) (x : Seat) wh
       ] ∙ sym (slice_get-map f seats k))
 
   -- one more entry came to one of them
-  pub happened_here : (catalog : Catalog) (w : WorldEvent) (event : Event) (put : ℕ) (a : Seat)
+  pub happened_here : (format : Format) (catalog : Catalog) (w : WorldEvent) (event : Event) (put : ℕ) (a : Seat)
       → w.site.0 ≡ i → slice_get seats i ≡ Some a → Brings (trails_of seats) w.site w.what event put
-      → x.entries.items ≡ a.entries.items ++ entry_of catalog w.site a.entries.items event put (keeps w.what) w.fate ∷ []
-      → HasHappened catalog (trails_of seats) w (trails_of (set seats i x))
-  happened_here catalog w event put a place was brings grown =
+      → x.entries.items ≡ a.entries.items ++ entry_of format catalog w.site a.entries.items event put (keeps w.what)
+      w.fate ∷ [] → HasHappened format catalog (trails_of seats) w (trails_of (set seats i x))
+  happened_here format catalog w event put a place was brings grown =
       let f = λ (s : Seat). s.entries.items in
       let site : w.site ≡ site_at i = ap site_at place in
       let before : trail_of (trails_of seats) w.site ≡ a.entries.items =
@@ -159,7 +160,8 @@ module _ (seats : List Seat) (i : ℕ) (within : i < length seats) (x : Seat) wh
         put = put;
         brings = brings;
         here = ap (trail_of (trails_of (set seats i x))) site ∙ (trail_here (set seats i x) i x set_here ∙ (grown
-            ∙ ap (λ (t : List Entry). t ++ entry_of catalog w.site t event put (keeps w.what) w.fate ∷ []) (sym before)));
+            ∙ ap (λ (t : List Entry). t ++ entry_of format catalog w.site t event put (keeps w.what) w.fate ∷ [])
+            (sym before)));
         one_each = length-map (set seats i x) f ∙ (length-set seats i x ∙ sym (length-map seats f));
         others = λ j apart. trail_there j.0 (λ same. apart (ap site_at (same ∙ sym place)));
       }

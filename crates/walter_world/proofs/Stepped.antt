@@ -4,7 +4,7 @@ use Rattle.std.specs.Prelude.{All, OnOk, OnErr}
 use Rattle.std.proofs.lemmas.List.{length-set}
 use Rattle.std.proofs.lemmas.Option.{slice_get-get_or, slice_get_cases, slice_get_within}
 use Rattle.walter_base.specs.declared.catalog.Catalog.{Catalog}
-use Rattle.walter_base.specs.declared.format.Format.TheVariants.{First}
+use Rattle.walter_base.specs.declared.format.Format.{Format}
 use Rattle.walter_base.specs.declared.memory.NoMemory.{NoMemory}
 use Rattle.walter_base.specs.declared.names.SiteId.{SiteId}
 use Rattle.walter_machine.specs.Machines.{catalog_in, site_in}
@@ -24,8 +24,9 @@ use Rattle.walter_world.proofs.SeatTrails.{trail_here, early_at}
 use Rattle.walter_world.proofs.Seated.{happened_here, seats_more, trails_same}
 use Rattle.walter_world.proofs.Stepping.{put_early, event_sized, may_find, later_by_one}
 
-pub world_promises : (catalog : Catalog) (seats : List Seat) → IsWorld catalog seats → KeepPromises catalog (trails_of seats)
-world_promises catalog seats world = promises catalog (trails_of seats) world.whole world.right
+pub world_promises : (format : Format) (catalog : Catalog) (seats : List Seat) → IsWorld format catalog seats
+    → KeepPromises format catalog (trails_of seats)
+world_promises format catalog seats world = promises format catalog (trails_of seats) world.whole world.right
 
 -- an entry more, or none
 pub more_or_same : (r : Result (Unit {0}) NoMemory) (old new : List Entry) (e : Entry) → OnOk r (new ≡ old ++ e ∷ [])
@@ -42,19 +43,20 @@ on_err (Ok done) p f = tt
 on_err (Err why) p f = f p
 
 -- this comes to the site of a world
-pub record IsStepping (catalog : Catalog) (seats : List Seat) (w : WorldEvent) (h : Happening) (a : Seat) : Type 0 where
-  pub world : IsWorld catalog seats
-  pub can : CanCome (record { catalog = catalog; trails = trails_of seats }) w
+pub record IsStepping (format : Format) (catalog : Catalog) (seats : List Seat) (w : WorldEvent) (h : Happening)
+    (a : Seat) : Type 0 where
+  pub world : IsWorld format catalog seats
+  pub can : CanCome (record { catalog = catalog; format = format; trails = trails_of seats }) w
   pub comes : IsHappening (trails_of seats) w.site w.what (Some h)
   pub at : slice_get seats w.site.0 ≡ Some a
 
-pub stepping : (now : WorldValue) (catalog : Catalog) (seats lent : List Seat) (w : WorldEvent) (found : Option Happening)
-    (h : Happening) (place : ℕ) (a : Seat) → IsWorld catalog seats
-    → record { catalog = catalog; trails = trails_of seats } ≡ now → CanCome now w
+pub stepping : (now : WorldValue) (format : Format) (catalog : Catalog) (seats lent : List Seat) (w : WorldEvent)
+    (found : Option Happening) (h : Happening) (place : ℕ) (a : Seat) → IsWorld format catalog seats
+    → record { catalog = catalog; format = format; trails = trails_of seats } ≡ now → CanCome now w
     → IsHappening (trails_of lent) w.site w.what found → lent ≡ seats → found ≡ Some h → place ≡ w.site.0
-    → a ≡ get_or seats place a → IsStepping catalog seats w h a
-stepping now catalog seats lent w found h place a world view can comes is_lent is_found is_place value =
-    let can_here : CanCome (record { catalog = catalog; trails = trails_of seats }) w =
+    → a ≡ get_or seats place a → IsStepping format catalog seats w h a
+stepping now format catalog seats lent w found h place a world view can comes is_lent is_found is_place value =
+    let can_here : CanCome (record { catalog = catalog; format = format; trails = trails_of seats }) w =
     subst (λ (v : WorldValue). CanCome v w) (sym view) can in
     let below = can_here.here in
     let all = world.one_each in
@@ -68,8 +70,8 @@ stepping now catalog seats lent w found h place a world view can comes is_lent i
           ∙ ap (λ (x : Seat). Some x) (sym (value ∙ ap (λ (n : ℕ). get_or seats n a) is_place));
     }
 
-module _ (catalog : Catalog) (seats : List Seat) (w : WorldEvent) (h : Happening) (a : Seat)
-    (S : IsStepping catalog seats w h a) where
+module _ (format : Format) (catalog : Catalog) (seats : List Seat) (w : WorldEvent) (h : Happening) (a : Seat)
+    (S : IsStepping format catalog seats w h a) where
   abbrev trails : List (List Entry)
   trails = trails_of seats
 
@@ -77,7 +79,7 @@ module _ (catalog : Catalog) (seats : List Seat) (w : WorldEvent) (h : Happening
   enough = S.world.right.enough
 
   abbrev own : Entry
-  own = entry_of catalog w.site a.entries.items h.event h.put h.keeps w.fate
+  own = entry_of format catalog w.site a.entries.items h.event h.put h.keeps w.fate
 
   pub young_here : clock (reverse a.entries.items) < 4294967295
   young_here = early_at seats w.site.0 a 4294967295 S.can.early S.at
@@ -95,9 +97,9 @@ module _ (catalog : Catalog) (seats : List Seat) (w : WorldEvent) (h : Happening
   can_here : CanTake catalog w.site a h.event h.keeps
   can_here = record {
     seat_is = seat_here;
-    layout = one_area enough First;
-    right = subst (λ (t : List Entry). AreRight catalog (one_area enough First) w.site (reverse t)) (trail_here seats w.site.0 a S.at)
-        ((S.world.right.right enough (omega arith)).right w.site S.can.here).right;
+    layout = one_area enough format;
+    right = subst (λ (t : List Entry). AreRight catalog (one_area enough format) w.site (reverse t))
+        (trail_here seats w.site.0 a S.at) ((S.world.right.right enough (omega arith)).right w.site S.can.here).right;
     young = young_here;
     sized = event_sized catalog trails w.site all_sized w.what h.event h.put S.can.within S.comes.0;
     finds = subst (λ (k : Bool). MayFind h.event k) (sym S.comes.1)
@@ -114,8 +116,8 @@ module _ (catalog : Catalog) (seats : List Seat) (w : WorldEvent) (h : Happening
       (subst (λ (k : SiteId). CanTake catalog k a h.event h.keeps) (sym seat_here.site) can_here)
 
   pub put_below : (bound : ℕ) → AreEarly bound trails → h.put < bound
-  put_below bound before = put_early catalog trails w.site (λ k. one_area enough First) bound (S.world.right.right enough (omega arith)) before
-      w.what h.event h.put S.can.within S.comes.0
+  put_below bound before = put_early catalog trails w.site (λ k. one_area enough format) bound
+      (S.world.right.right enough (omega arith)) before w.what h.event h.put S.can.within S.comes.0
 
   -- what it leaves
   module _ (x : Seat) (seat : IsSeat catalog w.site x) where
@@ -125,24 +127,24 @@ module _ (catalog : Catalog) (seats : List Seat) (w : WorldEvent) (h : Happening
     inside : w.site.0 < length seats
     inside = slice_get_within seats w.site.0 a S.at
 
-    pub happened : x.entries.items ≡ a.entries.items ++ own ∷ [] → HasHappened catalog trails w (trails_of new)
-    happened more = happened_here seats w.site.0 inside x catalog w h.event h.put a refl S.at S.comes.0
+    pub happened : x.entries.items ≡ a.entries.items ++ own ∷ [] → HasHappened format catalog trails w (trails_of new)
+    happened more = happened_here seats w.site.0 inside x format catalog w h.event h.put a refl S.at S.comes.0
         (subst (λ (k : Bool). x.entries.items
-        ≡ a.entries.items ++ entry_of catalog w.site a.entries.items h.event h.put k w.fate ∷ []) S.comes.1 more)
+        ≡ a.entries.items ++ entry_of format catalog w.site a.entries.items h.event h.put k w.fate ∷ []) S.comes.1 more)
 
-    pub steps_on : x.entries.items ≡ a.entries.items ++ own ∷ [] → StepsTo catalog trails w (trails_of new)
+    pub steps_on : x.entries.items ≡ a.entries.items ++ own ∷ [] → StepsTo format catalog trails w (trails_of new)
     steps_on more = inr (happened more)
 
     pub same_trails : x.entries.items ≡ a.entries.items → trails_of new ≡ trails
     same_trails same = trails_same seats w.site.0 inside x a S.at same
 
     right_on : (x.entries.items ≡ a.entries.items) ⊎ (x.entries.items ≡ a.entries.items ++ own ∷ [])
-        → AreRightWithPlace catalog (trails_of new)
-    right_on (inl same) = subst (AreRightWithPlace catalog) (sym (same_trails same)) S.world.right
-    right_on (inr more) = step_right catalog trails (trails_of new) w S.can.here S.world.right (steps_on more)
+        → AreRightWithPlace format catalog (trails_of new)
+    right_on (inl same) = subst (AreRightWithPlace format catalog) (sym (same_trails same)) S.world.right
+    right_on (inr more) = step_right format catalog trails (trails_of new) w S.can.here S.world.right (steps_on more)
 
     pub world_on : (x.entries.items ≡ a.entries.items) ⊎ (x.entries.items ≡ a.entries.items ++ own ∷ [])
-        → IsWorld catalog new
+        → IsWorld format catalog new
     world_on left = record {
       whole = S.world.whole;
       few = S.world.few;
@@ -158,6 +160,6 @@ module _ (catalog : Catalog) (seats : List Seat) (w : WorldEvent) (h : Happening
         (λ i. let low = before i in omega (arith, low))
     later_on (inr more) bound before =
         let did = happened more in
-        later_by_one catalog trails (trails_of new) w bound did
-        (put_early catalog trails w.site (λ k. one_area enough First) bound (S.world.right.right enough (omega arith)) before w.what did.event did.put
-        S.can.within did.brings) before
+        later_by_one format catalog trails (trails_of new) w bound did
+        (put_early catalog trails w.site (λ k. one_area enough format) bound (S.world.right.right enough (omega arith))
+        before w.what did.event did.put S.can.within did.brings) before

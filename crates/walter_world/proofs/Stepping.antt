@@ -5,6 +5,7 @@ use Rattle.std.proofs.lemmas.Bool.{cases_eq}
 use Rattle.std.proofs.lemmas.List.{reverse-append}
 use Rattle.std.proofs.lemmas.List.Elements.{All-contains}
 use Rattle.walter_base.specs.declared.catalog.Catalog.{Catalog}
+use Rattle.walter_base.specs.declared.format.Format.{Format}
 use Rattle.walter_base.specs.declared.names.SiteId.{SiteId}
 use Rattle.walter_base.specs.Names.{same_site}
 use Rattle.walter_machine.specs.States.{IsSizedEvent}
@@ -95,12 +96,13 @@ module _ (catalog : Catalog) (trails : List (List Entry)) (i : SiteId) where
 
 -- ---- the stamps behind it
 
-pub later_by_one : (catalog : Catalog) (old new : List (List Entry)) (w : WorldEvent) (bound : ℕ)
-    → (happened : HasHappened catalog old w new) → happened.put < bound → AreEarly bound old → AreEarly (bound + 1) new
-later_by_one catalog old new w bound happened put early j = elim (cases_eq j.0 w.site.0) [
+pub later_by_one : (format : Format) (catalog : Catalog) (old new : List (List Entry)) (w : WorldEvent) (bound : ℕ)
+    → (happened : HasHappened format catalog old w new) → happened.put < bound → AreEarly bound old
+    → AreEarly (bound + 1) new
+later_by_one format catalog old new w bound happened put early j = elim (cases_eq j.0 w.site.0) [
   | inl here ↦
       let trail : List Entry = trail_of old w.site in
-      let e : Entry = entry_of catalog w.site trail happened.event happened.put (keeps w.what) w.fate in
+      let e : Entry = entry_of format catalog w.site trail happened.event happened.put (keeps w.what) w.fate in
       let site : j ≡ w.site = ap site_at here in
       let last : clock (reverse (trail_of new j)) ≡ e.stamp =
       ap (λ (k : SiteId). clock (reverse (trail_of new k))) site

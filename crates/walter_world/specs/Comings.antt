@@ -1,7 +1,7 @@
 -- What an event comes to at a site without a disk: what the rule says; or its record meets a fault.
 use Rattle.std.specs.Prelude.{ℕ, Bool, true, false, not, ◌&&◌, List, [], reverse, Option, Some, None, if◌then◌else◌}
 use Rattle.walter_base.specs.declared.catalog.Catalog.{Catalog}
-use Rattle.walter_base.specs.declared.format.Format.TheVariants.{First}
+use Rattle.walter_base.specs.declared.format.Format.{Format}
 use Rattle.walter_base.specs.declared.message.Record.{Record}
 use Rattle.walter_base.specs.declared.names.SiteId.{SiteId}
 use Rattle.walter_machine.specs.Posts.{stamp_behind}
@@ -51,15 +51,16 @@ abbrev pub breaks : Fate → Option Record → Bool
 breaks Broken (Some rec) = true
 breaks fate wrote = false
 
--- what an event comes to at a site that stood so, where this record is found
-abbrev pub comes_to : Catalog → SiteId → Standing → Event → Option Record → Fate → Came
-comes_to catalog i S event kept fate = came_by fate event kept (rule First catalog i (settled catalog i kept S) event)
+-- what an event comes to at a site that stood so, whose journal's header names this format, where this record is found
+abbrev pub comes_to : Format → Catalog → SiteId → Standing → Event → Option Record → Fate → Came
+comes_to format catalog i S event kept fate = came_by fate event kept
+    (rule format catalog i (settled catalog i kept S) event)
 
 -- its entry, behind a trail; the packet that it brings was put out with this stamp, which is 0 where it brings none
-abbrev pub entry_of : Catalog → SiteId → List Entry → Event → ℕ → Bool → Fate → Entry
-entry_of catalog i trail event put keeps fate = record {
+abbrev pub entry_of : Format → Catalog → SiteId → List Entry → Event → ℕ → Bool → Fate → Entry
+entry_of format catalog i trail event put keeps fate = record {
   stamp = stamp_behind (clock (reverse trail)) put;
   event = event;
-  came = comes_to catalog i (standing catalog i (reverse trail)) event
+  came = comes_to format catalog i (standing catalog i (reverse trail)) event
       (found_by keeps (standing catalog i (reverse trail))) fate;
 }

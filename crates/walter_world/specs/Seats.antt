@@ -1,6 +1,7 @@
 -- What holds of a site of a world between two events, and what an event leaves of it.
 use Rattle.std.specs.Prelude.{◌≡◌, ◌<◌, ℕ, Bool, false, reverse, Option, All}
 use Rattle.walter_base.specs.declared.catalog.Catalog.{Catalog}
+use Rattle.walter_base.specs.declared.format.Format.{Format}
 use Rattle.walter_base.specs.declared.message.Record.{Record}
 use Rattle.walter_base.specs.declared.names.SiteId.{SiteId}
 use Rattle.walter_machine.specs.declared.machine.Machine.{Machine}
@@ -47,11 +48,11 @@ pub record CanTake (catalog : Catalog) (i : SiteId) (seat : Seat) (event : Event
   pub sized : IsSizedEvent catalog.sites event
   pub finds : MayFind event keeps
 
--- an event came to this at a site that stood so, where this record was found
-pub record HasCome (catalog : Catalog) (i : SiteId) (S : Standing) (event : Event) (kept : Option Record) (fate : Fate)
-    (came : Came) (machine : Machine) : Type 0 where
+-- an event came to this at a site that stood so, whose journal's header names this format, where this record was found
+pub record HasCome (format : Format) (catalog : Catalog) (i : SiteId) (S : Standing) (event : Event)
+    (kept : Option Record) (fate : Fate) (came : Came) (machine : Machine) : Type 0 where
   pub catalog_is : catalog_in machine ≡ catalog
   pub site : site_in machine ≡ i
-  pub came_is : came ≡ comes_to catalog i S event kept fate
+  pub came_is : came ≡ comes_to format catalog i S event kept fate
   pub stands : HasStanding machine (stands_after catalog i (settled catalog i kept S) event came)
   pub spelled : AreSpelled catalog.sites came

@@ -1,7 +1,7 @@
 -- What an event leaves of the trails of all sites, what these promise, and what a world is.
 use Rattle.std.specs.Prelude.{◌≡◌, ◌≢◌, ◌⊎◌, ◌<◌, ◌≤◌, ℕ, List, [], ◌∷◌, ◌++◌, length, map, reverse, slice_get, false, Some}
 use Rattle.walter_base.specs.declared.catalog.Catalog.{Catalog}
-use Rattle.walter_base.specs.declared.format.Format.TheVariants.{First}
+use Rattle.walter_base.specs.declared.format.Format.{Format}
 use Rattle.walter_base.specs.declared.names.SiteId.{SiteId}
 use Rattle.walter_base.specs.Vectors.{most_sites}
 use Rattle.walter_linked.specs.Catalogs.{IsWhole}
@@ -27,45 +27,47 @@ use Rattle.walter_world.specs.Seats.{IsSeat}
 
 -- ---- a step
 
--- an event came to the site, whose trail has its entry; the others are as before
-pub record HasHappened (catalog : Catalog) (old : List (List Entry)) (e : WorldEvent)
+-- An event came to the site, whose trail has its entry; the others are as before. The header of each journal names this
+-- format.
+pub record HasHappened (format : Format) (catalog : Catalog) (old : List (List Entry)) (e : WorldEvent)
     (new : List (List Entry)) : Type 0 where
   pub event : Event
   pub put : ℕ
   pub brings : Brings old e.site e.what event put
   pub here : trail_of new e.site
-      ≡ trail_of old e.site ++ entry_of catalog e.site (trail_of old e.site) event put (keeps e.what) e.fate ∷ []
+      ≡ trail_of old e.site ++ entry_of format catalog e.site (trail_of old e.site) event put (keeps e.what) e.fate ∷ []
   pub one_each : length new ≡ length old
   pub others : (j : SiteId) → j ≢ e.site → trail_of new j ≡ trail_of old j
 
 -- what is said to happen happens, or the packet that is to be delivered was never put out
-abbrev pub StepsTo : Catalog → List (List Entry) → WorldEvent → List (List Entry) → Type 0
-StepsTo catalog old e new = (IsMissing old e.site e.what × (new ≡ old)) ⊎ HasHappened catalog old e new
+abbrev pub StepsTo : Format → Catalog → List (List Entry) → WorldEvent → List (List Entry) → Type 0
+StepsTo format catalog old e new = (IsMissing old e.site e.what × (new ≡ old)) ⊎ HasHappened format catalog old e new
 
 -- each site has come up in its first epoch, and nothing else has happened
-pub record AreOpenings (catalog : Catalog) (trails : List (List Entry)) : Type 0 where
+pub record AreOpenings (format : Format) (catalog : Catalog) (trails : List (List Entry)) : Type 0 where
   pub one_each : length trails ≡ catalog.sites
   pub opens : (i : SiteId) → i.0 < catalog.sites
-      → trail_of trails i ≡ entry_of catalog i [] Restart 0 false Fine ∷ []
+      → trail_of trails i ≡ entry_of format catalog i [] Restart 0 false Fine ∷ []
 
 -- what a list of events leaves of the trails, one after another, each at one of the sites
-pub data HaveHappened (catalog : Catalog) (first : List (List Entry)) : List WorldEvent → List (List Entry) → Type 0 where
-  nothing : HaveHappened catalog first [] first
+pub data HaveHappened (format : Format) (catalog : Catalog) (first : List (List Entry)) : List WorldEvent
+    → List (List Entry) → Type 0 where
+  nothing : HaveHappened format catalog first [] first
   one_more : (events : List WorldEvent) (e : WorldEvent) (old new : List (List Entry))
-      → HaveHappened catalog first events old → e.site.0 < catalog.sites → StepsTo catalog old e new
-      → HaveHappened catalog first (events ++ e ∷ []) new
+      → HaveHappened format catalog first events old → e.site.0 < catalog.sites → StepsTo format catalog old e new
+      → HaveHappened format catalog first (events ++ e ∷ []) new
 
 -- ---- what the trails promise
 
--- where journals have place enough, they are right and linked
-pub record AreRightWithPlace (catalog : Catalog) (trails : List (List Entry)) : Type 0 where
+-- where journals have place enough, under headers that name this format, they are right and linked
+pub record AreRightWithPlace (format : Format) (catalog : Catalog) (trails : List (List Entry)) : Type 0 where
   pub enough : ℕ
-  pub right : (capacity : ℕ) → enough ≤ capacity → AreRightTrails catalog (λ k. one_area capacity First) trails
+  pub right : (capacity : ℕ) → enough ≤ capacity → AreRightTrails catalog (λ k. one_area capacity format) trails
 
 -- So they spell a legal history, in which each commit stands once, under its number wherever it has come; each abort
 -- has its cause; and what is said to be durable or visible is.
-pub record KeepPromises (catalog : Catalog) (trails : List (List Entry)) : Type 0 where
-  pub right_trails : AreRightWithPlace catalog trails
+pub record KeepPromises (format : Format) (catalog : Catalog) (trails : List (List Entry)) : Type 0 where
+  pub right_trails : AreRightWithPlace format catalog trails
   pub legal_history : IsLegal (psi_of catalog (merge trails))
   pub commits_once : StandsOnce catalog (reverse (merge trails))
   pub got_right : AreGotRight catalog (reverse (merge trails))
@@ -75,9 +77,11 @@ pub record KeepPromises (catalog : Catalog) (trails : List (List Entry)) : Type 
 
 -- ---- a world
 
--- what contracts see of it: its catalog, and the trails of its sites
+-- what contracts see of it: its catalog, the format that the header of each site's journal names, and the trails of its
+-- sites
 pub record WorldValue : Type 0 where
   pub catalog : Catalog
+  pub format : Format
   pub trails : List (List Entry)
 
 -- no trail has had so many stamps
@@ -95,19 +99,19 @@ abbrev pub trails_of : List Seat → List (List Entry)
 trails_of seats = map (λ (seat : Seat). seat.entries.items) seats
 
 -- the first sites have come up in their first epoch
-pub record HasOpened (catalog : Catalog) (i : SiteId) (seat : Seat) : Type 0 where
+pub record HasOpened (format : Format) (catalog : Catalog) (i : SiteId) (seat : Seat) : Type 0 where
   pub seat_is : IsSeat catalog i seat
-  pub opens : seat.entries.items ≡ entry_of catalog i [] Restart 0 false Fine ∷ []
+  pub opens : seat.entries.items ≡ entry_of format catalog i [] Restart 0 false Fine ∷ []
 
-pub record HaveOpened (catalog : Catalog) (sites : ℕ) (seats : List Seat) : Type 0 where
+pub record HaveOpened (format : Format) (catalog : Catalog) (sites : ℕ) (seats : List Seat) : Type 0 where
   pub one_each : length seats ≡ sites
-  pub each : (i : ℕ) (seat : Seat) → slice_get seats i ≡ Some seat → HasOpened catalog (site_at i) seat
+  pub each : (i : ℕ) (seat : Seat) → slice_get seats i ≡ Some seat → HasOpened format catalog (site_at i) seat
 
 -- each site of a whole catalog stands as its trail says, and the trails are right and linked
-pub record IsWorld (catalog : Catalog) (seats : List Seat) : Type 0 where
+pub record IsWorld (format : Format) (catalog : Catalog) (seats : List Seat) : Type 0 where
   pub whole : IsWhole catalog
   pub few : catalog.sites ≤ most_sites
   pub fewer : catalog.tolerated < catalog.sites
   pub one_each : length seats ≡ catalog.sites
   pub seats_are : (i : ℕ) (seat : Seat) → slice_get seats i ≡ Some seat → IsSeat catalog (site_at i) seat
-  pub right : AreRightWithPlace catalog (trails_of seats)
+  pub right : AreRightWithPlace format catalog (trails_of seats)

@@ -1,6 +1,6 @@
 //! A site without a disk, with its trail.
 ghost use Rattle.std.specs.Prelude.{◌≡◌, ◌<◌, ◌++◌, ◌∷◌, [], ℕ, false, None, reverse, IfOk, OnErr, OnOk};
-ghost use Rattle.walter_base.specs.declared.format.Format.TheVariants.{First};
+ghost use Rattle.walter_base.specs.declared.format.Format.{Format};
 ghost use Rattle.walter_machine.specs.Machines.{catalog_in, site_in, tables_in, is_up, HasRoom, HasStanding, IsCountable, IsCounted};
 ghost use Rattle.walter_machine.specs.Posts.{stamp_behind};
 ghost use Rattle.walter_machine.specs.Readiness.{IsReadyFor, IsReadyAnyway, rec_in};
@@ -39,10 +39,12 @@ impl Seat {
         }
     }
 
-    /// An event comes to the site, with this stamp; a restart finds the record in flight or doesn't.
+    /// An event comes to the site, whose journal's header names this format, with this stamp; a restart finds the
+    /// record in flight or doesn't.
     pub fn take(
         &mut self,
         alloc: Global,
+        format: Format,
         stamp: u64,
         event: Event,
         keeps: bool,
@@ -51,28 +53,35 @@ impl Seat {
         requires { CanTake (catalog_in self.old.machine) (site_in self.old.machine) self.old event keeps }
         ensures takes { (put : ℕ) → stamp ≡ stamp_behind (clock (reverse self.old.entries.items)) put
             → OnOk result (self.new.entries.items ≡ self.old.entries.items
-            ++ entry_of (catalog_in self.old.machine) (site_in self.old.machine) self.old.entries.items event put keeps
-            fate ∷ []) }
+            ++ entry_of format (catalog_in self.old.machine) (site_in self.old.machine) self.old.entries.items event
+            put keeps fate ∷ []) }
         ensures same { OnErr result (self.new.entries.items ≡ self.old.entries.items) }
         ensures seat { IsSeat (catalog_in self.old.machine) (site_in self.old.machine) self.new }
     {
         self.entries.reserve(1)?;
-        let came = self.came_of(alloc, &event, keeps, fate)?;
+        let came = self.came_of(alloc, format, &event, keeps, fate)?;
         self.entries.push_reserved(Entry { stamp, event, came });
         Ok(())
     }
 
     // What comes of an event; the site is then as it leaves it.
-    fn came_of(&mut self, alloc: Global, event: &Event, keeps: bool, fate: Fate) -> Mem<Came>
+    fn came_of(
+        &mut self,
+        alloc: Global,
+        format: Format,
+        event: &Event,
+        keeps: bool,
+        fate: Fate,
+    ) -> Mem<Came>
         requires { CanTake (catalog_in self.old.machine) (site_in self.old.machine) self.old event.now keeps }
-        ensures comes { IfOk result (λ came. HasCome (catalog_in self.old.machine) (site_in self.old.machine)
+        ensures comes { IfOk result (λ came. HasCome format (catalog_in self.old.machine) (site_in self.old.machine)
             (standing_of self.old) event.now (found_by keeps (standing_of self.old)) fate came self.new.machine) }
         ensures left { OnErr result (IsSeat (catalog_in self.old.machine) (site_in self.old.machine) self.new) }
         ensures entries { self.new.entries ≡ self.old.entries }
     {
         if self.machine.is_up() {
             let mut ready = Ready::none(alloc);
-            self.machine.prepare(event, Format::First, &mut ready)?;
+            self.machine.prepare(event, format, &mut ready)?;
             return Ok(come(alloc, &mut self.machine, event, ready, fate));
         }
         match event {
@@ -89,8 +98,9 @@ impl Seat {
     fn rise(&mut self, alloc: Global, keeps: bool, fate: Fate) -> Mem<Came>
         requires can { CanTake (catalog_in self.old.machine) (site_in self.old.machine) self.old Restart keeps }
         requires down { is_up self.old.machine ≡ false }
-        ensures comes { IfOk result (λ came. HasCome (catalog_in self.old.machine) (site_in self.old.machine)
-            (standing_of self.old) Restart (found_by keeps (standing_of self.old)) fate came self.new.machine) }
+        ensures comes { (format : Format) → IfOk result (λ came. HasCome format (catalog_in self.old.machine)
+            (site_in self.old.machine) (standing_of self.old) Restart (found_by keeps (standing_of self.old)) fate came
+            self.new.machine) }
         ensures left { OnErr result (IsSeat (catalog_in self.old.machine) (site_in self.old.machine) self.new) }
         ensures entries { self.new.entries ≡ self.old.entries }
     {
@@ -130,8 +140,8 @@ impl Seat {
 // The next epoch of a site that has one, whose records tell these tables.
 fn boot(alloc: Global, tables: Tables) -> Mem<Ready>
     requires { (K : Knowledge) × Stands tables K × (K.epoch < 4294967295) }
-    ensures ready { (S : Standing) → S.up ≡ false → Stands tables S.knows
-        → IfOk result (IsReadyFor First (catalog_of tables) (site_of tables) None S Restart) }
+    ensures ready { (format : Format) (S : Standing) → S.up ≡ false → Stands tables S.knows
+        → IfOk result (IsReadyFor format (catalog_of tables) (site_of tables) None S Restart) }
     ensures anyway { IfOk result (IsReadyAnyway (catalog_of tables) (site_of tables) None Restart) }
 {
     match Ready::boot(alloc, tables) {
@@ -147,9 +157,9 @@ fn come(alloc: Global, machine: &mut Machine, event: &Event, mut ready: Ready, f
     requires countable { IsCountable machine.old ready }
     requires anyway { IsReadyAnyway (catalog_in machine.old) (site_in machine.old) (tables_in machine.old) event.now
         ready }
-    ensures { (S : Standing) → HasStanding machine.old S → IsCounted machine.old S (rec_in ready)
-        → IsReadyFor First (catalog_in machine.old) (site_in machine.old) (tables_in machine.old) S event.now ready
-        → HasCome (catalog_in machine.old) (site_in machine.old) S event.now None fate result machine.new }
+    ensures { (format : Format) (S : Standing) → HasStanding machine.old S → IsCounted machine.old S (rec_in ready)
+        → IsReadyFor format (catalog_in machine.old) (site_in machine.old) (tables_in machine.old) S event.now ready
+        → HasCome format (catalog_in machine.old) (site_in machine.old) S event.now None fate result machine.new }
 {
     let mut came = Came::only(alloc, Outcome::Passed);
     if breaks(fate, &ready) {

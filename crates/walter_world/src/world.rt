@@ -14,7 +14,7 @@ use crate::happening::{Happening, happening_of};
 use crate::seat::Seat;
 use std::alloc::Global;
 use std::marker::Model;
-use walter_base::{Catalog, Mem, SiteId};
+use walter_base::{Catalog, Format, Mem, SiteId};
 use walter_machine::Machine;
 use walter_rules::Event;
 use walter_trail::Trail;
@@ -25,11 +25,13 @@ const LONGEST_BODY: usize = 65_536;
 /// The least stamp behind which there is no step. A site's epoch is at most its last stamp, and has four bytes.
 const END_OF_STAMPS: u64 = 4_294_967_295;
 
-/// The sites of a catalog without disks. Contracts see the catalog, and the trail of each site.
+/// The sites of a catalog without disks. Contracts see the catalog, the format that the header of each site's journal
+/// names, and the trail of each site.
 #[derive(Drop)]
 pub struct World {
     alloc: Global,
     catalog: Catalog,
+    format: Format,
     seats: Vec<Seat>,
     // Without trails: its room is for all of them.
     trails: Vec<Trail>,
@@ -40,39 +42,45 @@ impl Model for World {
     ghost use Rattle.std.specs.Coded.{code_by, coded×, coded_list};
     ghost use Rattle.std.specs.Prelude.{List, refl};
     ghost use Rattle.walter_base.specs.contracts.catalog.Catalog as coded_catalog;
+    ghost use Rattle.walter_base.specs.contracts.format.Format as coded_format;
     ghost use Rattle.walter_base.specs.declared.catalog.Catalog.{Catalog};
+    ghost use Rattle.walter_base.specs.declared.format.Format.{Format};
     ghost use Rattle.walter_rules.specs.contracts.entry.Entry as coded_entry;
     ghost use Rattle.walter_rules.specs.declared.entry.Entry.{Entry};
     ghost use Rattle.walter_world.specs.Worlds.{WorldValue, IsWorld, trails_of};
 
     ghost Value = { WorldValue };
 
-    ghost coded = { code_by (Catalog × List (List Entry))
-        (coded× coded_catalog.the_row.coded (coded_list (coded_list coded_entry.the_row.coded)))
-        (λ w. (w.catalog, w.trails)) (λ p. record { catalog = p.0; trails = p.1 }) (λ _. refl) };
+    ghost coded = { code_by (Catalog × (Format × List (List Entry)))
+        (coded× coded_catalog.the_row.coded
+        (coded× coded_format.the_row.coded (coded_list (coded_list coded_entry.the_row.coded))))
+        (λ w. (w.catalog, (w.format, w.trails)))
+        (λ p. record { catalog = p.0; format = p.1.0; trails = p.1.1 }) (λ _. refl) };
 
-    ghost view = { λ w. record { catalog = w.catalog; trails = trails_of w.seats.items } };
+    ghost view = { λ w. record { catalog = w.catalog; format = w.format; trails = trails_of w.seats.items } };
 
-    ghost invariant = { λ w. IsWorld w.catalog w.seats.items × (w.trails.items ≡ [])
+    ghost invariant = { λ w. IsWorld w.format w.catalog w.seats.items × (w.trails.items ≡ [])
         × (length w.seats.items ≤ vec_capacity w.trails) };
 }
 
 impl World {
     ghost use Rattle.walter_world.specs.Worlds.{CanCome, StepsTo, AreEarly, AreOpenings, KeepPromises};
 
-    /// Each site of the catalog is up, in its first epoch.
-    pub fn new(alloc: Global, catalog: &Catalog) -> Mem<World>
+    /// Each site of the catalog is up, in its first epoch. The header of each site's journal is to name this format.
+    pub fn new(alloc: Global, catalog: &Catalog, format: Format) -> Mem<World>
         requires whole { IsWhole catalog.now }
         requires most { catalog.now.sites ≤ most_sites }
         requires fewer { catalog.now.tolerated < catalog.now.sites }
         ensures catalog { IfOk result (λ world. world.catalog ≡ catalog.now) }
-        ensures openings { IfOk result (λ world. AreOpenings catalog.now world.trails) }
-        ensures promises { IfOk result (λ world. KeepPromises world.catalog world.trails) }
+        ensures format { IfOk result (λ world. world.format ≡ format) }
+        ensures openings { IfOk result (λ world. AreOpenings format catalog.now world.trails) }
+        ensures promises { IfOk result (λ world. KeepPromises world.format world.catalog world.trails) }
     {
         Ok(World {
             alloc,
             catalog: catalog.clone()?,
-            seats: seats_of(alloc, catalog)?,
+            format,
+            seats: seats_of(alloc, catalog, format)?,
             trails: Vec::with_capacity(alloc, usize::from(catalog.sites))?,
         })
     }
@@ -81,12 +89,13 @@ impl World {
     /// of memory nothing has happened.
     pub fn step(&mut self, event: WorldEvent) -> Mem<()>
         requires { CanCome self.old event }
-        ensures steps { OnOk result (StepsTo self.old.catalog self.old.trails event self.new.trails) }
+        ensures steps { OnOk result (StepsTo self.old.format self.old.catalog self.old.trails event self.new.trails) }
         ensures same { OnErr result (self.new ≡ self.old) }
         ensures catalog { self.new.catalog ≡ self.old.catalog }
+        ensures format { self.new.format ≡ self.old.format }
         // No stamp is greater than the number of steps and one.
         ensures later { (bound : ℕ) → AreEarly bound self.old.trails → AreEarly (bound + 1) self.new.trails }
-        ensures promises { KeepPromises self.new.catalog self.new.trails }
+        ensures promises { KeepPromises self.new.format self.new.catalog self.new.trails }
     {
         let WorldEvent { site, what, fate } = event;
         let Some(Happening { event, put, keeps }) = happening_of(
@@ -100,7 +109,7 @@ impl World {
         };
         let seat = &mut self.seats[usize::from(site.0)];
         let stamp = seat.clock().max(put) + 1;
-        seat.take(self.alloc, stamp, event, keeps, fate)
+        seat.take(self.alloc, self.format, stamp, event, keeps, fate)
     }
 
     /// Whether the event can come: its sites are of the catalog, the body of a call fits its frame, and there are stamps
@@ -153,31 +162,31 @@ fn are_early(seats: &[Seat]) -> bool
 }
 
 // Each site, up in its first epoch.
-fn seats_of(alloc: Global, catalog: &Catalog) -> Mem<Vec<Seat>>
+fn seats_of(alloc: Global, catalog: &Catalog, format: Format) -> Mem<Vec<Seat>>
     requires most { catalog.now.sites ≤ most_sites }
     requires fewer { catalog.now.tolerated < catalog.now.sites }
-    ensures { IfOk result (λ seats. HaveOpened catalog.now catalog.now.sites seats.items) }
+    ensures { IfOk result (λ seats. HaveOpened format catalog.now catalog.now.sites seats.items) }
 {
     let mut seats = Vec::with_capacity(alloc, usize::from(catalog.sites))?;
     for site in 0..catalog.sites {
-        seats.push_reserved(seat_of(alloc, catalog, SiteId(site))?);
+        seats.push_reserved(seat_of(alloc, catalog, format, SiteId(site))?);
     }
     Ok(seats)
 }
 
 // A site that is up, in its first epoch.
-fn seat_of(alloc: Global, catalog: &Catalog, id: SiteId) -> Mem<Seat>
+fn seat_of(alloc: Global, catalog: &Catalog, format: Format, id: SiteId) -> Mem<Seat>
     requires here { id.0 < catalog.now.sites }
     requires most { catalog.now.sites ≤ most_sites }
     requires fewer { catalog.now.tolerated < catalog.now.sites }
     ensures seat { IfOk result (IsSeat catalog.now id) }
     ensures opening { IfOk result (λ seat.
-        seat.entries.items ≡ entry_of catalog.now id [] event.Restart 0 false fate.Fine ∷ []) }
+        seat.entries.items ≡ entry_of format catalog.now id [] event.Restart 0 false fate.Fine ∷ []) }
 {
     let mut seat = Seat {
         machine: Machine::new(alloc, catalog.clone()?, id),
         entries: Vec::new(alloc),
     };
-    seat.take(alloc, 1, Event::Restart, false, Fate::Fine)?;
+    seat.take(alloc, format, 1, Event::Restart, false, Fate::Fine)?;
     Ok(seat)
 }

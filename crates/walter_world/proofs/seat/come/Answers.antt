@@ -1,5 +1,4 @@
 use Rattle.std.proofs.Common.{sym, ◌∙◌, subst}
-use Rattle.walter_base.specs.declared.format.Format.TheVariants.{First}
 use Rattle.walter_machine.proofs.Sizes.{only_alone}
 use Rattle.walter_machine.specs.Machines.{catalog_in, site_in, tables_in}
 use Rattle.walter_machine.specs.Readiness.{rec_in}
@@ -18,27 +17,27 @@ fail-requires-clause-flies c =
     breaks_some c.args.fate (rec_in c.args.ready) (sym c.breaks.ensures ∙ c.if-breaks.true)
 
 pub returns-then-breaks : goal.returns-then-breaks
-returns-then-breaks c S stands counted is =
+returns-then-breaks c format S stands counted is =
     let m = c.args.machine.now in
     let falls = sym c.breaks.ensures ∙ c.if-breaks.true in
     record {
       catalog_is = c.fail.ensures.same.catalog;
       site = c.fail.ensures.same.id;
-      came_is = comes_broken (catalog_in m) (site_in m) (tables_in m) S c.args.event.now c.args.ready c.args.fate c.fail.new.came
-          is falls c.fail.ensures.came;
-      stands = c.fail.ensures.stands First S stands counted is;
+      came_is = comes_broken format (catalog_in m) (site_in m) (tables_in m) S c.args.event.now c.args.ready
+          c.args.fate c.fail.new.came is falls c.fail.ensures.came;
+      stands = c.fail.ensures.stands format S stands counted is;
       spelled = fallen_spelled (catalog_in m).sites c.args.event.now (rec_in c.args.ready) c.fail.new.came
           (breaks_some c.args.fate (rec_in c.args.ready) falls) c.fail.ensures.came;
     }
 
 pub returns : goal.returns
-returns c S stands counted is =
+returns c format S stands counted is =
     let m = c.args.machine.now in
     record {
       catalog_is = c.keep.ensures.same.catalog;
       site = c.keep.ensures.same.id;
-      came_is = comes_stable (catalog_in m) (site_in m) (tables_in m) S c.args.event.now c.args.ready c.args.fate
+      came_is = comes_stable format (catalog_in m) (site_in m) (tables_in m) S c.args.event.now c.args.ready c.args.fate
           c.keep.new.came is (sym c.breaks.ensures ∙ c.if-breaks.false) c.keep.ensures.came;
-      stands = c.keep.ensures.stands First S stands counted is;
+      stands = c.keep.ensures.stands format S stands counted is;
       spelled = subst (AreSpelled (catalog_in m).sites) (sym c.keep.ensures.came) is.sized.sends;
     }

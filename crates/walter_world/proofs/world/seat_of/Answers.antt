@@ -21,7 +21,8 @@ at_made catalog made i seat P is same site p =
 
 pub take-requires : goal.take-requires
 take-requires c =
-    none_yet c.in_ok-clone.field-0 c.args.id (record { machine = c.new.result; entries = c.new-2.result }) c.new.ensures.stands
+    none_yet c.args.format c.in_ok-clone.field-0 c.args.id
+    (record { machine = c.new.result; entries = c.new-2.result }) c.new.ensures.stands
     c.new-2.ensures.items
 
 pub returns-clause-seat : goal.returns-clause-seat
@@ -33,9 +34,9 @@ returns-clause-seat c =
 pub returns-clause-opening : goal.returns-clause-opening
 returns-clause-opening c =
     at_made c.args.catalog.now c.in_ok-clone.field-0 c.args.id (record { machine = c.new.result; entries = c.new-2.result })
-    (λ (k : Catalog). λ (j : SiteId). c.take.new.self.entries.items ≡ entry_of k j [] event.Restart 0 false fate.Fine ∷ [])
-    c.new.ensures.catalog c.in_ok-clone.ensures.cases c.new.ensures.id
+    (λ (k : Catalog). λ (j : SiteId). c.take.new.self.entries.items ≡ entry_of c.args.format k j [] event.Restart 0
+    false fate.Fine ∷ []) c.new.ensures.catalog c.in_ok-clone.ensures.cases c.new.ensures.id
     (c.in_ok-take.ensures.takes 0
     (let none = ap (λ (t : List Entry). clock (reverse t)) c.new-2.ensures.items in omega (arith, none))
-    ∙ ap (λ (t : List Entry). t ++ entry_of (catalog_in c.new.result) (site_in c.new.result) t event.Restart 0 false fate.Fine ∷ [])
-    c.new-2.ensures.items)
+    ∙ ap (λ (t : List Entry). t ++ entry_of c.args.format (catalog_in c.new.result) (site_in c.new.result) t
+    event.Restart 0 false fate.Fine ∷ []) c.new-2.ensures.items)

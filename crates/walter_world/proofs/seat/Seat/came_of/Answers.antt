@@ -1,7 +1,6 @@
 use Rattle.std.proofs.Common.{sym, ◌∙◌, subst, refl}
 use Rattle.std.specs.Prelude.{IfOk}
 use Rattle.walter_base.specs.declared.catalog.Catalog.{Catalog}
-use Rattle.walter_base.specs.declared.format.Format.TheVariants.{First}
 use Rattle.walter_base.specs.declared.names.SiteId.{SiteId}
 use Rattle.walter_machine.proofs.Sizes.{only_alone}
 use Rattle.walter_machine.specs.Machines.{catalog_in, site_in, tables_in}
@@ -37,9 +36,9 @@ returns-then-is_up-clause-comes c =
     let seat = c.args.self.now in
     let S = standing_of seat in
     let stands = c.requires.seat_is.stands in
-    given seat c.prepare.new.self c.come.new.machine c.args.event.now c.args.keeps c.args.fate
+    given c.args.format seat c.prepare.new.self c.come.new.machine c.args.event.now c.args.keeps c.args.fate
     c.prepare.new.ready c.come.result c.requires.seat_is (sym c.is_up.ensures ∙ c.if-is_up.true) c.prepare.ensures.same
-    (c.prepare.ensures.stands S stands) (c.in_ok-prepare.ensures.ready S stands) c.come.ensures
+    (c.prepare.ensures.stands S stands) (c.in_ok-prepare.ensures.ready S stands) (c.come.ensures c.args.format)
 
 -- ---- at one that is down
 
@@ -53,8 +52,8 @@ returns-in-Restart-clause-comes c =
     let seat = c.args.self.now in
     let S = standing_of seat in
     subst (λ (e : Event). IfOk c.rise.result (λ (x : Came).
-    HasCome (catalog_in seat.machine) (site_in seat.machine) S e (found_by c.args.keeps S) c.args.fate x c.rise.new.self.machine))
-    (sym c.in-Restart.is) c.rise.ensures.comes
+    HasCome c.args.format (catalog_in seat.machine) (site_in seat.machine) S e (found_by c.args.keeps S) c.args.fate x
+    c.rise.new.self.machine)) (sym c.in-Restart.is) (c.rise.ensures.comes c.args.format)
 
 pub decline-requires-clause-alone : goal.decline-requires-clause-alone
 decline-requires-clause-alone c = only_alone c.only-came.result _ c.only-came.ensures
@@ -62,5 +61,5 @@ decline-requires-clause-alone c = only_alone c.only-came.result _ c.only-came.en
 pub returns-in_default-clause-comes : goal.returns-in_default-clause-comes
 returns-in_default-clause-comes c =
     let d = c.decline.ensures in
-    declined c.args.self.now c.args.event.now c.args.keeps c.args.fate c.decline.new.came c.requires
-    (sym c.is_up.ensures ∙ c.if-is_up.false) c.in_default.not-Restart d.alone (d.ruled First) d.stands
+    declined c.args.format c.args.self.now c.args.event.now c.args.keeps c.args.fate c.decline.new.came c.requires
+    (sym c.is_up.ensures ∙ c.if-is_up.false) c.in_default.not-Restart d.alone (d.ruled c.args.format) d.stands

@@ -48,16 +48,17 @@ come-came-requires c =
     }
 
 pub returns-clause-comes : goal.returns-clause-comes
-returns-clause-comes c =
+returns-clause-comes c format =
     let seat = c.args.self.now in
     let S = standing_of seat in
-    raised seat c.make_room.new.self c.settle-kept.new.self c.come-came.new.machine c.args.keeps c.args.fate c.in_ok-tables.field-0
+    raised format seat c.make_room.new.self c.settle-kept.new.self c.come-came.new.machine c.args.keeps c.args.fate
+    c.in_ok-tables.field-0
     c.in_ok-ready.ready c.settle-kept.result c.come-came.result c.requires.down c.requires.can.seat_is c.in_ok-tables.ensures
     c.make_room.ensures.same c.settle-kept.ensures.same c.settle-kept.ensures.down
     (c.settle-kept.ensures.settles S (c.make_room.ensures.stands S c.requires.can.seat_is.stands)
     (are_found (catalog_in seat.machine) (site_in seat.machine) S (found_by c.args.keeps S) c.in_ok-tables.field-0.count
     (found_there c.args.keeps S) c.in_ok-tables.ensures.count))
-    c.in_ok-ready.ensures.ready c.come-came.ensures
+    (c.in_ok-ready.ensures.ready format) (c.come-came.ensures format)
 
 pub returns-in_err-tables-clause-left : goal.returns-in_err-tables-clause-left
 returns-in_err-tables-clause-left c = where_err _ c.requires.can.seat_is

@@ -16,7 +16,7 @@ returns-clause-seat c =
     let can = can_still (catalog_in m) (site_in m) m c.args.self.now.entries c.reserve.new.self c.args.event c.args.keeps
     c.in_ok-reserve.ensures.items c.requires in
     let e : Entry = record { stamp = c.args.stamp; event = c.args.event; came = c.in_ok-came.came } in
-    seat_more (catalog_in m) (site_in m) (record { machine = m; entries = c.reserve.new.self })
+    seat_more c.args.format (catalog_in m) (site_in m) (record { machine = m; entries = c.reserve.new.self })
     (record { machine = c.came_of.new.self.machine; entries = c.push_reserved.new.self }) e c.args.keeps c.args.fate can.seat_is
     c.in_ok-came.ensures.comes
     (c.push_reserved.ensures.items
