@@ -26,7 +26,7 @@ use walter_scenario::Scenario;
 use walter_stream::{Sink, Source};
 
 // As many as there may be client threads and sites.
-const MOST_WORKERS: usize = 40;
+const MOST_WORKERS: usize = 48;
 
 // How often a pump worker lets its site do something before it gives the site's lock back: a client waits no longer, and
 // the lock goes from thread to thread so much less.

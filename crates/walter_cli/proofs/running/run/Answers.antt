@@ -1,4 +1,10 @@
-use Rattle.std.proofs.Common.{◌≡◌, ◌≤◌, List, Some, None, Vec, Global, false, inr, subst, ap, sym, refl, ◌∙◌, arith}
+use Rattle.std.proofs.Common.{◌≡◌, ◌≤◌, List, length, map, Some, None, Vec, Global, false, inr, subst, ap, sym, refl, ◌∙◌, arith}
+use Rattle.std.specs.Prelude.{All}
+use Rattle.std.proofs.lemmas.List.{length-map}
+use Rattle.walter_base.specs.declared.format.Format.{Format}
+use Rattle.walter_base.specs.Sizes.{most_in}
+use Rattle.walter_cell.specs.Cells.{CellValue}
+use Rattle.walter_rules.specs.Layouts.{header_of}
 use Rattle.std.specs.Result.{is_err}
 use Rattle.walter_cluster.proofs.Keeping.{of_each}
 use Rattle.walter_cluster.specs.Benches.{IsOf, arms_at}
@@ -9,10 +15,10 @@ use Rattle.walter_stream.specs.Streams.{Appends}
 use Rattle.walter_trail.specs.declared.trail.Trail.{Trail}
 use Rattle.walter_cli.specs.declared.ended.Fault.TheVariants.{Memory, Rack}
 use Rattle.walter_cli.specs.Ending.{IsBuilt, IsWholeBack, IsWriteFault}
-use Rattle.walter_cli.specs.Headline.{IsRun, IsWholeRun}
+use Rattle.walter_cli.specs.Headline.{HaveHeaders, IsRun, IsWholeRun}
 use Rattle.walter_cli.specs.Racks.{RackAt, rack_at, Racked, racked}
 use Rattle.walter_cli.specs.Words.{written_by}
-use Rattle.walter_cli.proofs.Finished.{returned, run_is, whole_is, whole_back as all_back_armed, ends_with, ends_cut}
+use Rattle.walter_cli.proofs.Finished.{returned, headers_are, run_is, whole_is, whole_back as all_back_armed, ends_with, ends_cut}
 use Rattle.walter_cli.proofs.Giving.{IsReturned, ok_part, balances, fails_to_give}
 use Rattle.walter_cli.proofs.Racking.{sure_back}
 use Rattle.walter_cli.proofs.Trails.{frames, spellings}
@@ -181,33 +187,36 @@ returns-in-Err-given-clause-run g c =
 
 pub write_result-requires-clause-frames : goal.write_result-requires-clause-frames
 write_result-requires-clause-frames g c =
-    subst HaveFrames (sym c.deref.ensures.value) (short g (goal.at.write_result-requires-clause-frames g c).After-give_all-given)
+    subst HaveFrames (sym c.deref-2.ensures.value) (short g (goal.at.write_result-requires-clause-frames g c).After-give_all-given)
 
 pub write_result-requires-clause-headers : goal.write_result-requires-clause-headers
 write_result-requires-clause-headers g c =
     let named = c.in-Ok-headers.ensures in
-    let long : length c.deref.result.now ≡ length c.drive-bench.result.0.cells =
-    ap length (c.deref.ensures.value ∙ c.close-trails.ensures.gives.trails)
+    let long : length c.deref-2.result.now ≡ length c.drive-bench.result.0.cells =
+    ap length (c.deref-2.ensures.value ∙ c.close-trails.ensures.gives.trails)
     ∙ length-map c.drive-bench.result.0.cells (λ (x : CellValue g.row.R-D.Denot). x.node.trail) in
-    let given = c.deref-2.ensures.value in (
+    let given = c.deref.ensures.value in (
       ap length (given ∙ named.headers)
           ∙ length-map c.drive-bench.result.0.cells (λ (x : CellValue g.row.R-D.Denot). header_of x.node.layout) ∙ sym long,
-      subst (λ n. All (λ (h : Format). n ≤ most_in h) c.deref-2.result.now) (sym long)
+      subst (λ n. All (λ (h : Format). n ≤ most_in h) c.deref.result.now) (sym long)
           (subst (λ hs. All (λ (h : Format). length c.drive-bench.result.0.cells ≤ most_in h) hs) (sym given) named.places),
     )
 
 pub write_result-requires-clause-records : goal.write_result-requires-clause-records
 write_result-requires-clause-records g c =
-    subst (λ ts. HaveSpellings (length ts) ts) (sym c.deref.ensures.value) (spelled g (goal.at.write_result-requires-clause-records g c).After-give_all-given)
+    subst (λ ts. HaveSpellings (length ts) ts) (sym c.deref-2.ensures.value) (spelled g (goal.at.write_result-requires-clause-records g c).After-give_all-given)
 
 -- the report was written whole
 pub returns-in-Ok-write_result-clause-run : goal.returns-in-Ok-write_result-clause-run
 returns-in-Ok-write_result-clause-run g c =
     let at = (goal.at.returns-in-Ok-write_result-clause-run g c).After-give_all-given in
     let is_whole = whole_back g at (sym c.is_err.ensures.value ∙ c.if-is_err.false) c.in_default.ensures.ok in
-    let written = subst (λ (ts : List (List Entry)). Appends (g.K.Sink.holds c.args.sink.now) (g.K.Sink.holds c.write_result.new.sink) (written_by c.args.command.now c.args.scenario.now ts))
-    c.deref.ensures.value c.in-Ok-write_result.ensures.ok in
-    ends_with _ c.args.command.now c.args.scenario.now _ _ _ _ (trails g at) _ None _ (is_whole, written)
+    let headers = c.deref.result.now in
+    let named = c.deref.ensures.value ∙ c.in-Ok-headers.ensures.headers in
+    let written = subst (λ (ts : List (List Entry)). Appends (g.K.Sink.holds c.args.sink.now) (g.K.Sink.holds c.write_result.new.sink) (written_by c.args.command.now c.args.scenario.now headers ts))
+    c.deref-2.ensures.value c.in-Ok-write_result.ensures.ok in
+    ends_with _ c.args.command.now c.args.scenario.now _ _ _ _ (trails g at) _ None _
+    (is_whole, (headers, headers_of_run g at headers named, written))
     (ap (λ (v : Vec Trail Global). v.items) c.late-in-Ok-write_result.ensures.trails) c.late-in-Ok-write_result.ensures.fault
 
 -- it was not
@@ -215,8 +224,11 @@ pub returns-in-Err-write_result-clause-run : goal.returns-in-Err-write_result-cl
 returns-in-Err-write_result-clause-run g c =
     let at = (goal.at.returns-in-Err-write_result-clause-run g c).After-give_all-given in
     let is_whole = whole_back g at (sym c.is_err.ensures.value ∙ c.if-is_err.false) c.in_default.ensures.ok in
-    let why = subst (λ (ts : List (List Entry)). IsWriteFault (written_by c.args.command.now c.args.scenario.now ts) (g.K.Sink.holds c.args.sink.now) (g.K.Sink.holds c.write_result.new.sink)
-    (g.K.Sink.faults c.args.sink.now) (g.K.Sink.faults c.write_result.new.sink) c.in-Err-write_result.fault) c.deref.ensures.value c.in-Err-write_result.ensures.fault in
+    let headers = c.deref.result.now in
+    let named = c.deref.ensures.value ∙ c.in-Ok-headers.ensures.headers in
+    let why = subst (λ (ts : List (List Entry)). IsWriteFault (written_by c.args.command.now c.args.scenario.now headers ts) (g.K.Sink.holds c.args.sink.now) (g.K.Sink.holds c.write_result.new.sink)
+    (g.K.Sink.faults c.args.sink.now) (g.K.Sink.faults c.write_result.new.sink) c.in-Err-write_result.fault) c.deref-2.ensures.value c.in-Err-write_result.ensures.fault in
     ends_with _ c.args.command.now c.args.scenario.now _ _ _ _ (trails g at) _ (Some c.in-Err-write_result.fault) _
-    (ends_cut _ c.args.command.now c.args.scenario.now _ _ _ _ (trails g at) c.in-Err-write_result.fault is_whole why)
+    (ends_cut _ c.args.command.now c.args.scenario.now _ _ _ _ (trails g at) c.in-Err-write_result.fault is_whole headers
+    (headers_of_run g at headers named) why)
     (ap (λ (v : Vec Trail Global). v.items) c.late-in-Err-write_result.ensures.trails) c.late-in-Err-write_result.ensures.fault
