@@ -29,3 +29,5 @@ pub mod Lasting
 pub mod Premises
 pub mod Reasoned
 pub mod Waiting
+pub mod Readers
+pub mod Judged

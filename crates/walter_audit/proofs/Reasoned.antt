@@ -11,6 +11,7 @@ use Rattle.walter_audit.specs.Contents.{Contents, AreAllRead, Stands}
 use Rattle.walter_audit.specs.Findings.{rank, NoneBefore}
 use Rattle.walter_audit.specs.Firsts.{IsEarlier, IsFirst, IsFirstPair}
 use Rattle.walter_audit.specs.Journals.{Journals}
+use Rattle.walter_audit.specs.Reading.{IsUnreadableAt}
 use Rattle.walter_audit.proofs.Readings.{one_reading, front_read}
 
 pub not_itself : (a : Named) → ¬ IsEarlier a a
@@ -73,6 +74,12 @@ module _ (catalog : Catalog) (contents : Contents) (J : Journals) (read : AreAll
       let u = s.2 in
       u.wrong (take (a.index + 1) (J a.site))
       (front_read catalog a.site (contents a.site) (J a.site) (read.each a.site s.1) (a.index + 1))
+
+pub unreadable_stands : (catalog : Catalog) (contents : Contents) (a : Named) → IsFirst (IsUnreadableAt catalog contents) a
+    → IsFirstPair (Stands catalog contents Unreadable) a a
+unreadable_stands catalog contents a first =
+    let one = single (IsUnreadableAt catalog contents) a first in
+    record { so = (refl, first.so.0, first.so.1); least = λ c d s before. one.least c d (s.0, (s.1, s.2)) before }
 
 -- reasons by their rank
 abbrev ranked : ℕ → Reason

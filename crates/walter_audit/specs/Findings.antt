@@ -70,7 +70,7 @@ IfNo finding P = Unit {0}
 abbrev pub IsFound : Catalog → Contents → Finding → Type 0
 IsFound catalog contents finding = IfYes finding (IsYes catalog contents) × IfNo finding (IsNo catalog contents)
 
--- these journals are those of some contents, and no reason before a conflict stands
-pub record AreSound (catalog : Catalog) (journals : Journals) (contents : Contents) : Type 0 where
+-- these journals are those of the contents, and no reason before this one stands
+pub record AreSound (catalog : Catalog) (journals : Journals) (contents : Contents) (reason : Reason) : Type 0 where
   pub read : AreAllRead catalog contents journals
-  pub none : NoneBefore catalog contents Conflict
+  pub none : NoneBefore catalog contents reason

@@ -9,4 +9,5 @@ pub mod Queues
 pub mod Walks
 pub mod Lasts
 pub mod Circles
+pub mod Reading
 pub mod Findings
