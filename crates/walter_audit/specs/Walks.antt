@@ -32,7 +32,8 @@ abbrev pub next_at : List (List Item) → List ℕ → ℕ → Option Item
 next_at queues cursors n = slice_get (unwrap_or (slice_get queues n) []) (slice_index cursors n)
 
 -- this is the next item of the least site that can go on
-pub record IsNext (has : Version → Bool) (queues : List (List Item)) (cursors : List ℕ) (n : ℕ) (item : Item) : Type 0 where
+pub record IsNext (has : Version → Bool) (queues : List (List Item)) (cursors : List ℕ) (n : ℕ)
+    (item : Item) : Type 0 where
   pub within : n < length queues
   pub next : next_at queues cursors n ≡ Some item
   pub goes : IsTrue (can_go has item)

@@ -55,7 +55,8 @@ impl Queue {
 
     /// The item at a place.
     pub fn get(&self, place: usize) -> Option<&Item>
-        ensures { MatchOption result (slice_get self.now place ≡ None) (λ item. slice_get self.now place ≡ Some item.now) }
+        ensures { MatchOption result (slice_get self.now place ≡ None)
+            (λ item. slice_get self.now place ≡ Some item.now) }
     {
         self.all.get(place)
     }

@@ -144,7 +144,8 @@ fn read_bodies(
     Ok(Ok(records))
 }
 
-/// A catalog of the same sites and containers, of which no site may be lost: what can follow doesn't ask how many may be.
+/// A catalog of the same sites and containers, of which no site may be lost. What can follow doesn't ask how many may
+/// be.
 fn tolerating_none(catalog: &Catalog) -> Mem<Catalog>
     ensures { IfOk result (λ copy. copy ≡ tolerating catalog.now 0) }
 {
