@@ -25,7 +25,7 @@ placed-push : (header : Format) (records : List Record) (rec : Record)
 placed-push header [] rec = refl
 placed-push header (first ∷ records) rec = ap (λ rest. (header, first) ∷ rest) (placed-push (format_behind first header) records rec)
 
-map-push : {X Y : Type 0} (f : X → Y) (xs : List X) (x : X) → map f (xs ++ x ∷ []) ≡ map f xs ++ f x ∷ []
+pub map-push : {X Y : Type 0} (f : X → Y) (xs : List X) (x : X) → map f (xs ++ x ∷ []) ≡ map f xs ++ f x ∷ []
 map-push f [] x = refl
 map-push f (y ∷ ys) x = ap (λ rest. f y ∷ rest) (map-push f ys x)
 

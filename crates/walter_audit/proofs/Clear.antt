@@ -49,7 +49,7 @@ pub data Least (P : ℕ → Bool) (n : ℕ) : Type 0 where
   none_passes : ((q : ℕ) → q ≤ n → P q ≡ false) → Least P n
   least_is : (q : ℕ) → q ≤ n → P q ≡ true → list_any P (range_with_len 0 q) ≡ false → Least P n
 
-none_any : (P : ℕ → Bool) (xs : List ℕ) → ((q : ℕ) → Contains xs q → P q ≡ false) → list_any P xs ≡ false
+pub none_any : (P : ℕ → Bool) (xs : List ℕ) → ((q : ℕ) → Contains xs q → P q ≡ false) → list_any P xs ≡ false
 none_any P [] each = refl
 none_any P (x ∷ xs) each = rw (each x (first_in x xs)) (none_any P xs (λ q c. each q (later_in x xs q c)))
 

@@ -23,7 +23,7 @@ use Rattle.walter_agreement.proofs.Lists.{place_mapped}
 use Rattle.walter_audit.specs.declared.finding.Named.{Named}
 use Rattle.walter_audit.specs.declared.finding.Reason.TheVariants.{Missing, Differs, Twice, Start, Conflict}
 use Rattle.walter_audit.specs.Contents.{Contents, HasSpellingThere, as_sent, AreAllRead}
-use Rattle.walter_audit.specs.Findings.{NoneStands, IsHistoryOf}
+use Rattle.walter_audit.specs.Findings.{NoneStands, NoneBefore, IsHistoryOf}
 use Rattle.walter_audit.specs.Journals.{Journals}
 use Rattle.walter_audit.specs.Reasons.{AreUnordered}
 use Rattle.walter_audit.specs.Orders.{Commits, Taken, IsOrder, items_of, history}
@@ -63,7 +63,7 @@ in_second First sites rec has = record {
 in_second Second sites rec has = has
 
 module _ (catalog : Catalog) (contents : Contents) (J : Journals) (read : AreAllRead catalog contents J)
-    (none : NoneStands catalog contents) where
+    (none : NoneBefore catalog contents Conflict) where
   below : (i : SiteId) (p : ℕ) (rec : Record) → slice_get (J i) p ≡ Some rec → i.0 < catalog.sites
   below i p rec at = elim (low_or i.0 catalog.sites) [
     | inl l ↦ l
@@ -93,7 +93,7 @@ module _ (catalog : Catalog) (contents : Contents) (J : Journals) (read : AreAll
       } in
       elim (bytes_cases (record_spelled Second (Own seq x)) (record_spelled Second (Own seq y))) [
         | inl alike ↦ let e = same_record Second catalog.sites (Own seq x) (Own seq y) as_own theirs alike in (let f : x ≡ y = cc in f)
-        | inr apart ↦ absurd (none Differs (record { site = i; index = p }) (record { site = j; index = q }) (
+        | inr apart ↦ absurd (none Differs (record { site = i; index = p }) (record { site = j; index = q }) (omega arith) (
           J,
           read,
           record {
@@ -111,7 +111,7 @@ module _ (catalog : Catalog) (contents : Contents) (J : Journals) (read : AreAll
   sent : (i : SiteId) (p : ℕ) (rec : Record) → slice_get (J i) p ≡ Some rec → IsSent rec
   sent i p (Got j seq x) at = elim (site_cases x.tid.site j) [
     | inl of ↦ of.1
-    | inr other ↦ absurd (none Missing (record { site = i; index = p }) (record { site = i; index = p }) (
+    | inr other ↦ absurd (none Missing (record { site = i; index = p }) (record { site = i; index = p }) (omega arith) (
       refl,
       (
         J,
@@ -139,14 +139,11 @@ module _ (catalog : Catalog) (contents : Contents) (J : Journals) (read : AreAll
   clear = record {
     follow = follow;
     no_others = read.no_others;
-    missing = λ a m. none Missing a a (refl, (J, read, m));
+    missing = λ a m. none Missing a a (omega arith) (refl, (J, read, m));
     same = same;
-    twice = λ a b t. none Twice a b (J, read, t);
-    start = λ a u. none Start a a (refl, (J, read, u));
+    twice = λ a b t. none Twice a b (omega arith) (J, read, t);
+    start = λ a u. none Start a a (omega arith) (refl, (J, read, u));
   }
-
-  unordered : (a b : Named) → ¬ AreUnordered J a b
-  unordered a b u = none Conflict a b (J, read, u)
 
   some : (i : SiteId) (p seq : ℕ) (tx : Tx) → slice_get (J i) p ≡ Some (Own seq tx) → tx.updates ≢ []
   some i p seq tx at e =
@@ -154,8 +151,18 @@ module _ (catalog : Catalog) (contents : Contents) (J : Journals) (read : AreAll
       let size = ap length e in
       omega (arith, one, size)
 
+module _ (catalog : Catalog) (contents : Contents) (J : Journals) (read : AreAllRead catalog contents J)
+    (all : NoneStands catalog contents) where
+  none : NoneBefore catalog contents Conflict
+  none reason c d low = all reason c d
+
+  unordered : (a b : Named) → ¬ AreUnordered J a b
+  unordered a b u = all Conflict a b (J, read, u)
+
   pub tells : (done : List Taken) → IsOrder catalog J done → IsHistoryOf J (history J done)
   tells done order =
+      let clear = clear catalog contents J read none in
+      let some = some catalog contents J read none in
       let S = spelled catalog J clear unordered some order.left done order.taken in
       let whole : (k : SiteId) → taken_of k done ≡ items_of catalog J k = λ k.
       sym (split (items_of catalog J) order.left done order.taken k ∙ (ap (λ t. taken_of k done ++ t) (order.all k) ∙ append-nil (taken_of k done))) in

@@ -23,3 +23,11 @@ pub mod Written
 pub mod Names
 pub mod Standing
 pub mod Bodies
+pub mod Queued
+pub mod Walks
+pub mod Lasting
+pub mod Premises
+pub mod Reasoned
+pub mod Waiting
+pub mod Readers
+pub mod Judged

@@ -75,7 +75,7 @@ module _ (J : Journals) (numbered : AreNumbered J) where
       by None e = refl
       by (Some tx) e = absurd (let p = there_made i seq tx e in none (p.0, tx, p.1))
 
-  none_made : (i : SiteId) (seq : ℕ) → made_in (J i) seq ≡ None → ¬ HasOwn J i seq
+  pub none_made : (i : SiteId) (seq : ℕ) → made_in (J i) seq ≡ None → ¬ HasOwn J i seq
   none_made i seq none has = (let e : ◌≡◌ {A = Option Tx} None (Some has.1) = sym none ∙ made_there i has.0 seq has.1 has.2 in cc)
 
   pub is_missing : (a : Named) → IsSo (λ at rec. Lacks J rec) J a → IsMissing J a

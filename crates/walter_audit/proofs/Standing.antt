@@ -191,7 +191,7 @@ no_match fronts start first place before none has =
 
 module _ (catalog : Catalog) (i : SiteId) (records : List Record) (fronts : List (List ℕ))
     (F : AreFronts catalog.sites i records fronts) where
-  front_at : (p : ℕ) → p ≤ length records → (v : List ℕ) × (slice_get fronts p ≡ Some v)
+  pub front_at : (p : ℕ) → p ≤ length records → (v : List ℕ) × (slice_get fronts p ≡ Some v)
   front_at p low = has fronts p (let m = F.many in omega (arith, m, low))
     where
       has : {X : Type 0} (xs : List X) (q : ℕ) → q < length xs → (x : X) × (slice_get xs q ≡ Some x)
@@ -200,7 +200,7 @@ module _ (catalog : Catalog) (i : SiteId) (records : List Record) (fronts : List
       has (x ∷ xs) (suc q) l = has xs q (omega (arith, l))
 
   -- the counts of a front are a start where the two cover each other
-  counts_alike : (p : ℕ) (v start : List ℕ) → slice_get fronts p ≡ Some v → Covers v start → Covers start v
+  pub counts_alike : (p : ℕ) (v start : List ℕ) → slice_get fronts p ≡ Some v → Covers v start → Covers start v
       → are_counts catalog i (take p records) start ≡ true
   counts_alike p v start get more less = all_pass (λ k. nat_eq (count i (take p records) k) (entry_at start k)) (sites catalog)
       (λ k within.
@@ -212,7 +212,7 @@ module _ (catalog : Catalog) (i : SiteId) (records : List Record) (fronts : List
       let b = less k.0 in
       eq-eqb (count i (take p records) k) (entry_at start k) (omega (arith, number, a, b)))
 
-  alike_counts : (p : ℕ) (v start : List ℕ) → length start ≡ catalog.sites → slice_get fronts p ≡ Some v
+  pub alike_counts : (p : ℕ) (v start : List ℕ) → length start ≡ catalog.sites → slice_get fronts p ≡ Some v
       → are_counts catalog i (take p records) start ≡ true → (k : ℕ) → slice_index v k ≡ slice_index start k
   alike_counts p v start size get is k = elim (low_or k catalog.sites) [
     | inl low ↦

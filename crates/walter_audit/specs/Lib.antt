@@ -5,4 +5,9 @@ pub mod Contents
 pub mod Firsts
 pub mod Questions
 pub mod Starts
+pub mod Queues
+pub mod Walks
+pub mod Lasts
+pub mod Circles
+pub mod Reading
 pub mod Findings

@@ -11,15 +11,12 @@ use Rattle.walter_base.specs.Names.{same_site}
 use Rattle.walter_psi.specs.declared.step.Step.{Step}
 use Rattle.walter_psi.specs.declared.step.Step.TheVariants.{Start, Op, Commit, Arrive}
 use Rattle.walter_audit.specs.declared.finding.Named.{Named}
+pub use Rattle.walter_audit.specs.declared.item.Item.{Item}
+pub use Rattle.walter_audit.specs.declared.item.Item.TheVariants.{Starts, Commits, Arrives}
 use Rattle.walter_audit.specs.Journals.{Journals, IsOwn, own_at, are_counts}
 
--- an item of a site, with its place, which is how many records stand before it: the start of an own commit's
--- transaction; an own commit, by its number; or the arrival of another site's commit
-pub data Item : Type 0 where
-  Starts : (place : ℕ) → Tx → Item
-  Commits : (place seq : ℕ) → Tx → Item
-  Arrives : (place : ℕ) → SiteId → (seq : ℕ) → Item
-
+-- an item has its place, which is how many records stand before it: the start of an own commit's transaction; an own
+-- commit, by its number; or the arrival of another site's commit
 abbrev pub place_of : Item → ℕ
 place_of (Starts place tx) = place
 place_of (Commits place seq tx) = place

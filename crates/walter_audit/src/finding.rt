@@ -1,4 +1,5 @@
-//! What an audit names: a record, and a reason.
+//! What an audit finds, and what it names: a record, and a reason.
+use crate::item::Item;
 use walter_base::SiteId;
 
 /// A record, by its site and its place in that site's journal, from 0.
@@ -25,4 +26,13 @@ pub enum Reason {
     Conflict,
     /// Sites wait for each other's commits in a circle.
     Cycle,
+}
+
+/// What an audit finds of the journals of all sites.
+#[derive(Debug, Drop)]
+pub enum Finding {
+    /// They tell a legal history, in this order.
+    Yes(Vec<(SiteId, Item)>),
+    /// They tell none, for the first reason that stands, of its first pair of records.
+    No { reason: Reason, a: Named, b: Named },
 }

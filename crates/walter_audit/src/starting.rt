@@ -46,7 +46,7 @@ fn counts_behind(counts: &Vts, site: SiteId, journaled: &Record) -> Vts
 }
 
 /// The counts of the site's records before each place, and of all.
-fn fronts_of(alloc: Global, sites: u8, site: SiteId, records: &[Record]) -> Mem<Vec<Vts>>
+pub(crate) fn fronts_of(alloc: Global, sites: u8, site: SiteId, records: &[Record]) -> Mem<Vec<Vts>>
     requires { sites ≤ most_sites }
     ensures { IfOk result (λ fronts. AreFronts sites site records.now fronts.items) }
 {
@@ -61,7 +61,7 @@ fn fronts_of(alloc: Global, sites: u8, site: SiteId, records: &[Record]) -> Mem<
 }
 
 /// The place of the first of the counts that covers the start; how many there are where none does.
-fn first_covering(fronts: &[Vts], start: &Vts) -> usize
+pub(crate) fn first_covering(fronts: &[Vts], start: &Vts) -> usize
     requires { AreRising fronts.now }
     ensures within { result ≤ length fronts.now }
     ensures before { (k : ℕ) (v : List ℕ) → k < result → slice_get fronts.now k ≡ Some v → ¬ Covers v start.now }
