@@ -5,6 +5,9 @@ use Rattle.std.specs.Result.{is_err}
 use Rattle.std.proofs.lemmas.List.{append_assoc, length-append}
 use Rattle.std.proofs.lemmas.List.Elements.{All-nil, All-push, All-weaker, All-contains, Contains-append_left, Contains-append_cases}
 use Rattle.std.proofs.lemmas.Option.{slice_get_within}
+use Rattle.walter_base.specs.declared.format.Format.{Format}
+use Rattle.walter_base.specs.declared.format.Format.TheVariants.{First, Second}
+use Rattle.walter_base.specs.Sizes.{most_in}
 use Rattle.walter_disk.specs.Racks.{IsFresh}
 use Rattle.walter_disk.specs.declared.disk.Disk.{Ghosts}
 use Rattle.walter_psi.proofs.Lists.{slice_get-push_cases, slice_get-append_left, slice_get-push}
@@ -239,6 +242,11 @@ module _ {D : Type 0} (g : Ghosts D) (a b c : RackAt D) where
 pub err_never : {X E : Type 0} (r : Result X E) (e : E) → r ≡ Err e → IsOk r → ⊥
 err_never (Ok x) e is ok = absurd cc
 err_never (Err f) e is ok = absurd cc
+
+-- no format has places for more sites than there may be
+pub few_in : (format : Format) {n : ℕ} → n ≤ most_in format → n ≤ 16
+few_in First few = omega (arith, few)
+few_in Second few = few
 
 -- of a rack of which thirty-two calls don't fail sixteen disks are taken and given back without a fault
 pub sure_back : {D : Type 0} (g : Ghosts D) (a b c : RackAt D) (disks back : List D) → AreTaken g a b disks → AreGiven b c 0 back

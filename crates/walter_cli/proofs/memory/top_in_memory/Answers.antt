@@ -24,7 +24,7 @@ sound handed more all same =
     subst (λ xs. All (λ (it : ℕ × MemoryState). it.1.stops.arms ≡ [] → it.1.stops.faults ≡ 0) xs) is (λ k d within none. (all k d within none).2)
 
 -- what a call assures over the rack that was made for it
-of_made : (words : List (String Global)) (made last : RackState) (before after : Outside) (ended : Ended) → made ≡ rack_of [] 16
+of_made : (words : List (String Global)) (made last : RackState) (before after : Outside) (ended : Ended) → made ≡ rack_of [] 32
     → Assures words (racked disk_ghosts (at made) (at last)) before after ended
     → Assures words (in_memory last) before after ended
 of_made words made last before after ended is assures =

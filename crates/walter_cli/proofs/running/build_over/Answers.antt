@@ -10,7 +10,7 @@ use Rattle.walter_cli.specs.declared.ended.Fault.TheVariants.{Memory}
 use Rattle.walter_cli.proofs.Early.{ends_before, ends_unbuilt}
 use Rattle.walter_cli.proofs.Finished.{arms_built}
 use Rattle.walter_cli.proofs.Giving.{of_reads}
-use Rattle.walter_cli.proofs.Racking.{sure_back}
+use Rattle.walter_cli.proofs.Racking.{few_in, sure_back}
 use Rattle.walter_cli.proofs.running.build_over.Goals as goal
 
 pub returns-in_default-clause-unbuilt : goal.returns-in_default-clause-unbuilt
@@ -52,7 +52,7 @@ returns-in-Err-clause-unbuilt g c =
     let disks = c.in_ok-disks.disks.items in
     let why = c.in-Err.ensures.why in
     let gives = c.give_all.ensures.given in
-    let few = c.requires.playable.few in
+    let few = few_in c.args.scenario.now.format c.requires.playable.few in
     let many = was.0 in
     subst (λ (f : Fault). EndsEarly (racked g.R.D.Disk a d) c.args.scenario.now f) (sym c.unbegun.ensures)
     (ends_unbuilt g.R.D.Disk c.args.scenario.now a b d disks c.in-Err.field-0

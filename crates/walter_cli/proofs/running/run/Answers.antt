@@ -20,7 +20,7 @@ use Rattle.walter_cli.specs.Racks.{RackAt, rack_at, Racked, racked}
 use Rattle.walter_cli.specs.Words.{written_by}
 use Rattle.walter_cli.proofs.Finished.{returned, headers_are, run_is, whole_is, whole_back as all_back_armed, ends_with, ends_cut}
 use Rattle.walter_cli.proofs.Giving.{IsReturned, ok_part, balances, fails_to_give}
-use Rattle.walter_cli.proofs.Racking.{sure_back}
+use Rattle.walter_cli.proofs.Racking.{few_in, sure_back}
 use Rattle.walter_cli.proofs.Trails.{frames, spellings}
 use Rattle.walter_cli.proofs.running.run.Given.{Over}
 use Rattle.walter_cli.proofs.running.run.Goals.{After-give_all-given}
@@ -103,7 +103,7 @@ module _ (g : Over) (c : After-give_all-given g) where
 
   sure : 32 ≤ before.unfailing → after.faults ≡ before.faults
   sure enough =
-      let few = c.requires.playable.few in
+      let few = few_in c.args.scenario.now.format c.requires.playable.few in
       let many = built.many in
       sure_back g.R.D.Disk before mid after built.disks c.close-trails.result.disks.items built.taken
       c.give_all-given.ensures.given came_back.long (omega (arith, few, many)) enough
@@ -127,8 +127,8 @@ module _ (g : Over) (c : After-give_all-given g) where
 pub returns-then-is_err-clause-given_back : goal.returns-then-is_err-clause-given_back
 returns-then-is_err-clause-given_back g c = back g (goal.at.returns-then-is_err-clause-given_back g c).After-give_all-given
 
-pub returns-in_default-headers-clause-given_back : goal.returns-in_default-headers-clause-given_back
-returns-in_default-headers-clause-given_back g c = back g (goal.at.returns-in_default-headers-clause-given_back g c).After-give_all-given
+pub returns-in_default-clause-given_back : goal.returns-in_default-clause-given_back
+returns-in_default-clause-given_back g c = back g (goal.at.returns-in_default-clause-given_back g c).After-give_all-given
 
 pub returns-in-Err-given-clause-given_back : goal.returns-in-Err-given-clause-given_back
 returns-in-Err-given-clause-given_back g c = back g (goal.at.returns-in-Err-given-clause-given_back g c).After-give_all-given
@@ -136,16 +136,16 @@ returns-in-Err-given-clause-given_back g c = back g (goal.at.returns-in-Err-give
 pub returns-in-Ok-write_result-clause-given_back : goal.returns-in-Ok-write_result-clause-given_back
 returns-in-Ok-write_result-clause-given_back g c = back g (goal.at.returns-in-Ok-write_result-clause-given_back g c).After-give_all-given
 
-pub returns-in-Err-write_result-clause-given_back : goal.returns-in-Err-write_result-clause-given_back
-returns-in-Err-write_result-clause-given_back g c = back g (goal.at.returns-in-Err-write_result-clause-given_back g c).After-give_all-given
+pub returns-clause-given_back : goal.returns-clause-given_back
+returns-clause-given_back g c = back g (goal.at.returns-clause-given_back g c).After-give_all-given
 
 pub returns-then-is_err-clause-unfailing : goal.returns-then-is_err-clause-unfailing
 returns-then-is_err-clause-unfailing g c = λ enough rose.
     let same = sure g (goal.at.returns-then-is_err-clause-unfailing g c).After-give_all-given enough in omega (arith, rose, same)
 
-pub returns-in_default-headers-clause-unfailing : goal.returns-in_default-headers-clause-unfailing
-returns-in_default-headers-clause-unfailing g c = λ enough rose.
-    let same = sure g (goal.at.returns-in_default-headers-clause-unfailing g c).After-give_all-given enough in omega (arith, rose, same)
+pub returns-in_default-clause-unfailing : goal.returns-in_default-clause-unfailing
+returns-in_default-clause-unfailing g c = λ enough rose.
+    let same = sure g (goal.at.returns-in_default-clause-unfailing g c).After-give_all-given enough in omega (arith, rose, same)
 
 pub returns-in-Err-given-clause-unfailing : goal.returns-in-Err-given-clause-unfailing
 returns-in-Err-given-clause-unfailing g c = λ enough rose.
@@ -158,11 +158,11 @@ returns-then-is_err-clause-run g c =
     ends_with _ c.args.command.now c.args.scenario.now _ _ _ _ (trails g at) _ (Some Memory) _ (inr (run g at), refl)
     (ap (λ (v : Vec Trail Global). v.items) c.late.ensures.trails) c.late.ensures.fault
 
-pub returns-in_default-headers-clause-run : goal.returns-in_default-headers-clause-run
-returns-in_default-headers-clause-run g c =
-    let at = (goal.at.returns-in_default-headers-clause-run g c).After-give_all-given in
+pub returns-in_default-clause-run : goal.returns-in_default-clause-run
+returns-in_default-clause-run g c =
+    let at = (goal.at.returns-in_default-clause-run g c).After-give_all-given in
     ends_with _ c.args.command.now c.args.scenario.now _ _ _ _ (trails g at) _ (Some Memory) _ (inr (run g at), refl)
-    (ap (λ (v : Vec Trail Global). v.items) c.late-in_default-headers.ensures.trails) c.late-in_default-headers.ensures.fault
+    (ap (λ (v : Vec Trail Global). v.items) c.late-in_default.ensures.trails) c.late-in_default.ensures.fault
 
 -- a disk could not be given back
 pub returns-in-Err-given-clause-run : goal.returns-in-Err-given-clause-run
@@ -210,7 +210,7 @@ write_result-requires-clause-records g c =
 pub returns-in-Ok-write_result-clause-run : goal.returns-in-Ok-write_result-clause-run
 returns-in-Ok-write_result-clause-run g c =
     let at = (goal.at.returns-in-Ok-write_result-clause-run g c).After-give_all-given in
-    let is_whole = whole_back g at (sym c.is_err.ensures.value ∙ c.if-is_err.false) c.in_default.ensures.ok in
+    let is_whole = whole_back g at (sym c.is_err.ensures.value ∙ c.if-is_err.false) c.in_default-given.ensures.ok in
     let headers = c.deref.result.now in
     let named = c.deref.ensures.value ∙ c.in-Ok-headers.ensures.headers in
     let written = subst (λ (ts : List (List Entry)). Appends (g.K.Sink.holds c.args.sink.now) (g.K.Sink.holds c.write_result.new.sink) (written_by c.args.command.now c.args.scenario.now headers ts))
@@ -220,10 +220,10 @@ returns-in-Ok-write_result-clause-run g c =
     (ap (λ (v : Vec Trail Global). v.items) c.late-in-Ok-write_result.ensures.trails) c.late-in-Ok-write_result.ensures.fault
 
 -- it was not
-pub returns-in-Err-write_result-clause-run : goal.returns-in-Err-write_result-clause-run
-returns-in-Err-write_result-clause-run g c =
-    let at = (goal.at.returns-in-Err-write_result-clause-run g c).After-give_all-given in
-    let is_whole = whole_back g at (sym c.is_err.ensures.value ∙ c.if-is_err.false) c.in_default.ensures.ok in
+pub returns-clause-run : goal.returns-clause-run
+returns-clause-run g c =
+    let at = (goal.at.returns-clause-run g c).After-give_all-given in
+    let is_whole = whole_back g at (sym c.is_err.ensures.value ∙ c.if-is_err.false) c.in_default-given.ensures.ok in
     let headers = c.deref.result.now in
     let named = c.deref.ensures.value ∙ c.in-Ok-headers.ensures.headers in
     let why = subst (λ (ts : List (List Entry)). IsWriteFault (written_by c.args.command.now c.args.scenario.now headers ts) (g.K.Sink.holds c.args.sink.now) (g.K.Sink.holds c.write_result.new.sink)

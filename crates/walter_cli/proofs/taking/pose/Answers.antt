@@ -27,7 +27,7 @@ pub returns-in-Ok-clause-playable : goal.returns-in-Ok-clause-playable
 returns-in-Ok-clause-playable g c =
     let made = c.in-Ok.ensures in record {
       some = made.some;
-      few = made.few;
+      few = made.fits;
       fewer = made.fewer;
       whole = subst (λ (t : Scenario). IsWhole t.catalog) (sym made.made) made_whole;
       within = made.within;
