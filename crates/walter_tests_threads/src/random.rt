@@ -1,5 +1,5 @@
-//! Scenarios at random, of one to sixteen sites and 1 to 32 threads: few objects that are fought over, links that lose, repeat
-//! and swap, and disks that fail.
+//! Scenarios at random, of one to sixteen sites and 1 to 32 threads: few objects that are fought over, links that lose,
+//! repeat and swap, and disks that fail.
 ghost use Rattle.std.specs.Prelude.{◌<◌};
 
 use crate::running::run;
