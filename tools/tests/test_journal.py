@@ -14,7 +14,7 @@ import model
 import readings
 import reports
 import words
-from spelled import frame, record_of
+from spelled import *
 
 STOP = [["stop", 0], ["restart", 0]]
 ONE_AREA = """\
@@ -95,6 +95,48 @@ class InWords(InFolder):
         front = f"journal: {path}: "
         self.assertTrue(wrong.startswith(front), wrong)
         return wrong[len(front) : -1]
+
+
+class Audited(InFolder):
+    """What is said behind the journals of a folder, where a scenario is named."""
+
+    def journals(self, *sites):
+        """Journals of the second format with these records, and the scenario of their run."""
+        for site, records in enumerate(sites):
+            bodies = [record_of(record, 2) for record in records]
+            with open(os.path.join(self.folder, f"site-{site}.journal"), "wb") as file:
+                file.write(b"WALTERJ2" + b"".join(b"\1" + frame(body) for body in bodies) + b"\0")
+        path = os.path.join(self.folder, "run.json")
+        with open(path, "w") as file:
+            json.dump({"sites": len(sites), "f": 0, "containers": [[1, "regular", 0]], "clients": [], "steps": []}, file)
+        return path
+
+    def said(self, path):
+        status, told, wrong = run_tool("journal", self.folder, "--scenario", path)
+        self.assertEqual(wrong, "")
+        return status, told[told.index("audit: ") :].splitlines()
+
+    def of(self, site, start=(0, 0)):
+        return model.Tx((site, 1, 1), 0, start, ((WRITE, (1, 5), b"a"),))
+
+    def test_a_conflict_with_both_records(self):
+        path = self.journals(*([(BOOT, 1), (OWN, 1, self.of(site))] for site in (0, 1)))
+        self.assertEqual(self.said(path), (8, [
+            "audit: no, conflict: two commits write one object, and neither is in the other's snapshot",
+            "  0.1, site 0's 2nd record: Own 0@1 of 0.1.1, with the snapshot 0,0 (write 1:5 \"a\")",
+            "  1.1, site 1's 2nd record: Own 1@1 of 1.1.1, with the snapshot 0,0 (write 1:5 \"a\")"]))
+
+    def test_one_record_alone_and_a_body_that_is_none(self):
+        path = self.journals([(BOOT, 1)], [(BOOT, 1), (GOT, 0, 1, self.of(0))])
+        self.assertEqual(self.said(path), (8, [
+            "audit: no, missing: this commit was received, or seen, and its site hasn't made it",
+            "  1.1, site 1's 2nd record: Got 0@1 of 0.1.1, with the snapshot 0,0 (write 1:5 \"a\")"]))
+        path = self.journals([(BOOT, 2)], [(BOOT, 1)])
+        self.assertEqual(self.said(path)[1][0].split(": ")[1], "no, unreadable")
+
+    def test_a_legal_history(self):
+        path = self.journals([(BOOT, 1), (OWN, 1, self.of(0))], [(BOOT, 1), (GOT, 0, 1, self.of(0)), (SEEN, 0, 1)])
+        self.assertEqual(self.said(path), (0, ["audit: the journals tell one legal history, of 1 commit and 1 arrival"]))
 
 
 class Shown(InWords):
