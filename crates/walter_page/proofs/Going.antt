@@ -7,10 +7,10 @@ use Rattle.std.proofs.lemmas.List.{take-append-drop, length-append}
 use Rattle.walter_stream.specs.Streams.{Appends, AppendsFront}
 use Rattle.walter_stream.specs.declared.source.Failed.{Failed as Refused}
 use Rattle.walter_stream.proofs.StreamLemmas.{Appends-nil, Appends-trans}
-use Rattle.walter_report.specs.declared.fault.WriteFault.{WriteFault}
-use Rattle.walter_report.specs.declared.fault.WriteFault.TheVariants.{Failed}
-use Rattle.walter_report.specs.Texts.{IsUnwritten}
-use Rattle.walter_report.specs.Pages.{Sends, HasPut, IsCut, Puts}
+use Rattle.walter_page.specs.declared.fault.WriteFault.{WriteFault}
+use Rattle.walter_page.specs.declared.fault.WriteFault.TheVariants.{Failed}
+use Rattle.walter_page.specs.Unwritten.{IsUnwritten}
+use Rattle.walter_page.specs.Pages.{Sends, HasPut, IsCut, Puts}
 
 sends_then : (a b c : Option (List ℕ)) (bytes more left left' : List ℕ) → Sends a b bytes left
     → Sends b c (left ++ more) left' → Sends a c (bytes ++ more) left'

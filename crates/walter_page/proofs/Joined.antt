@@ -3,8 +3,8 @@ use Rattle.std.proofs.Common.{◌≡◌, ℕ, ◌<◌, ◌+◌, Bool, true, fals
 use Rattle.std.specs.List.{join_with_byte}
 use Rattle.std.proofs.lemmas.Bool.{lt-ltb}
 use Rattle.std.proofs.lemmas.List.{drop_more}
-use Rattle.walter_report.specs.Lists.{comma_behind, has_pieces, list_behind}
-use Rattle.walter_report.specs.Words.{comma, listed}
+use Rattle.walter_page.specs.Lists.{comma_behind, has_pieces, list_behind}
+use Rattle.walter_page.specs.Words.{comma, listed}
 
 join_behind : (x : List ℕ) (xs : List (List ℕ)) → join_with_byte comma (x ∷ xs) ≡ x ++ list_behind true xs
 join_behind x [] = sym (append-nil x)

@@ -2,8 +2,8 @@
 use Rattle.std.specs.Prelude.{ℕ, List, [], ◌∷◌, ◌++◌}
 use Rattle.std.specs.Fmt.{decimal}
 use Rattle.hex.specs.Hex.{encode_lower}
-use Rattle.walter_report.specs.declared.parts.Part.{Part}
-use Rattle.walter_report.specs.declared.parts.Part.TheVariants.{Word, Number, Hex}
+use Rattle.walter_page.specs.declared.parts.Part.{Part}
+use Rattle.walter_page.specs.declared.parts.Part.TheVariants.{Word, Number, Hex}
 
 abbrev pub part_text : Part → List ℕ
 part_text (Word word) = word.now

@@ -13,7 +13,7 @@ pub enum WriteFault {
 }
 
 impl From<walter_base::NoMemory> for WriteFault {
-    ghost use Rattle.walter_report.specs.declared.fault.WriteFault.TheVariants.{NoMemory};
+    ghost use Rattle.walter_page.specs.declared.fault.WriteFault.TheVariants.{NoMemory};
 
     ghost from_gives = { λ _ e. e ≡ NoMemory };
 
@@ -23,7 +23,7 @@ impl From<walter_base::NoMemory> for WriteFault {
 }
 
 impl From<walter_stream::Failed> for WriteFault {
-    ghost use Rattle.walter_report.specs.declared.fault.WriteFault.TheVariants.{Failed};
+    ghost use Rattle.walter_page.specs.declared.fault.WriteFault.TheVariants.{Failed};
 
     ghost from_gives = { λ _ e. e ≡ Failed };
 

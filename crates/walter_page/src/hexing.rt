@@ -1,7 +1,7 @@
 //! Bytes as hex digits.
 ghost use Rattle.std.specs.Prelude.{◌≤◌, length};
 ghost use Rattle.hex.specs.Hex.{encode_lower};
-ghost use Rattle.walter_report.specs.Pages.{Puts};
+ghost use Rattle.walter_page.specs.Pages.{Puts};
 
 use crate::page::Page;
 use hex::encode_to_slice;
@@ -10,8 +10,8 @@ use walter_stream::{Failed, Sink};
 // How many bytes become digits at once.
 const PIECE: usize = 512;
 
-// Puts two digits for each byte behind what waits.
-pub(crate) fn put_hex<K: Sink>(page: &mut Page, sink: &mut K, bytes: &[u8]) -> Result<(), Failed>
+/// Puts two digits for each byte behind what waits.
+pub fn put_hex<K: Sink>(page: &mut Page, sink: &mut K, bytes: &[u8]) -> Result<(), Failed>
     ensures { Puts K.holds K.faults sink.old sink.new page.old page.new (encode_lower bytes.now) result }
 {
     let mut left = bytes;

@@ -1,23 +1,23 @@
 //! Lists within a line.
 ghost use Rattle.std.specs.Prelude.{◌≡◌, ◌++◌, map};
 ghost use Rattle.std.specs.Fmt.{decimal};
-ghost use Rattle.walter_report.specs.Lists.{comma_behind};
-ghost use Rattle.walter_report.specs.Pages.{Puts};
-ghost use Rattle.walter_report.specs.Words.{listed};
+ghost use Rattle.walter_page.specs.Lists.{comma_behind};
+ghost use Rattle.walter_page.specs.Pages.{Puts};
+ghost use Rattle.walter_page.specs.Words.{listed};
 
 use crate::page::Page;
 use crate::parts::{Part, put_parts};
 use walter_stream::{Failed, Sink};
 
-// What stands before a piece of a list: a comma, where there are pieces before it.
-pub(crate) fn comma_behind(some: bool) -> &'static str
+/// What stands before a piece of a list: a comma, where there are pieces before it.
+pub fn comma_behind(some: bool) -> &'static str
     ensures { result.now ≡ comma_behind some }
 {
     if some { "," } else { "" }
 }
 
-// Puts a word, and the numbers with a comma between each two, or a dash.
-pub(crate) fn put_counts<K: Sink>(
+/// Puts a word, and the numbers with a comma between each two, or a dash.
+pub fn put_counts<K: Sink>(
     page: &mut Page,
     sink: &mut K,
     word: &str,

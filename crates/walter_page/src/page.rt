@@ -1,6 +1,6 @@
 //! Bytes on their way to a sink.
 ghost use Rattle.std.specs.Prelude.{◌≡◌, ◌≤◌, [], length, IfOk, OnOk};
-ghost use Rattle.walter_report.specs.Pages.{Puts};
+ghost use Rattle.walter_page.specs.Pages.{Puts};
 
 use std::alloc::Global;
 use std::marker::Model;
@@ -10,10 +10,10 @@ use walter_stream::{Failed, Sink, write_all};
 // How many bytes may wait.
 const ROOM: usize = 65_536;
 
-// Bytes on their way to a sink. They wait until the next ones find no place, and are then written at once: so a text is
-// written in few calls, and none but `new` takes memory. Contracts see the bytes that wait.
+/// Bytes on their way to a sink. They wait until the next ones find no place, and are then written at once: so a text is
+/// written in few calls, and none but `new` takes memory. Contracts see the bytes that wait.
 #[derive(Drop)]
-pub(crate) struct Page {
+pub struct Page {
     waiting: Vec<u8>,
 }
 
@@ -28,6 +28,7 @@ impl Model for Page {
 }
 
 impl Page {
+    /// A page where no bytes wait.
     pub fn new(alloc: Global) -> Mem<Page>
         ensures { IfOk result (λ page. page ≡ []) }
     {

@@ -1,26 +1,25 @@
 //! The parts that a line is made of.
-ghost use Rattle.walter_report.specs.Pages.{Puts};
-ghost use Rattle.walter_report.specs.Parts.{part_text, parts_text};
+ghost use Rattle.walter_page.specs.Pages.{Puts};
+ghost use Rattle.walter_page.specs.Parts.{part_text, parts_text};
 
 use crate::hexing::put_hex;
 use crate::page::Page;
 use itoa::Buffer;
 use walter_stream::{Failed, Sink};
 
-// A part of a line.
+/// A part of a line.
 #[derive(Clone, Copy)]
-pub(crate) enum Part<'a> {
+pub enum Part<'a> {
+    /// A text, as it stands.
     Word(&'a str),
+    /// A number, by its decimal digits.
     Number(u128),
+    /// Bytes, by two digits each.
     Hex(&'a [u8]),
 }
 
-// Puts the parts behind what waits, one after another.
-pub(crate) fn put_parts<K: Sink>(
-    page: &mut Page,
-    sink: &mut K,
-    parts: &[Part],
-) -> Result<(), Failed>
+/// Puts the parts behind what waits, one after another.
+pub fn put_parts<K: Sink>(page: &mut Page, sink: &mut K, parts: &[Part]) -> Result<(), Failed>
     ensures { Puts K.holds K.faults sink.old sink.new page.old page.new (parts_text parts.now) result }
 {
     for part in parts {

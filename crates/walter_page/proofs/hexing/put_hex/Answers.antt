@@ -1,9 +1,9 @@
 use Rattle.std.proofs.Common.{◌≡◌, ◌++◌, ◌∙◌, ap, sym}
 use Rattle.std.proofs.lemmas.List.{take-append-drop}
 use Rattle.hex.specs.Hex.{encode_lower}
-use Rattle.walter_report.proofs.Digits.{encode_lower-append}
-use Rattle.walter_report.proofs.Going.{goes_on, goes_last, goes_as, goes_err}
-use Rattle.walter_report.proofs.hexing.put_hex.Goals as goal
+use Rattle.walter_page.proofs.Digits.{encode_lower-append}
+use Rattle.walter_page.proofs.Going.{goes_on, goes_last, goes_as, goes_err}
+use Rattle.walter_page.proofs.hexing.put_hex.Goals as goal
 
 pub loop-left-preserved : goal.loop-left-preserved
 loop-left-preserved g c =

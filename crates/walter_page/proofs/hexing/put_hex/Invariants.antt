@@ -1,7 +1,7 @@
 use Rattle.std.proofs.Common.{length}
 use Rattle.hex.specs.Hex.{encode_lower}
-use Rattle.walter_report.proofs.Going.{Goes}
-use Rattle.walter_report.proofs.hexing.put_hex.Given as goal
+use Rattle.walter_page.proofs.Going.{Goes}
+use Rattle.walter_page.proofs.hexing.put_hex.Given as goal
 
 abbrev pub invariant-loop-left : goal.invariant-loop-left
 invariant-loop-left g l =

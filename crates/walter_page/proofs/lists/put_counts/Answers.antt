@@ -1,11 +1,11 @@
 use Rattle.std.proofs.Common.{◌≡◌, ◌<◌, ◌++◌, ◌+◌, ◌∷◌, [], ℕ, List, map, drop, length, get_or, nat_lt, ap, refl, arith}
 use Rattle.std.specs.Fmt.{decimal}
 use Rattle.std.proofs.lemmas.Bool.Decides.{nat_tests}
-use Rattle.walter_report.specs.Lists.{comma_behind, list_behind}
-use Rattle.walter_report.specs.Words.{listed}
-use Rattle.walter_report.proofs.Going.{cuts, cut_more, cut_as, put_as, put_last, puts_as, goes_from, goes_on, goes_as, goes_err}
-use Rattle.walter_report.proofs.Joined.{listed_behind, list_behind-next}
-use Rattle.walter_report.proofs.lists.put_counts.Goals as goal
+use Rattle.walter_page.specs.Lists.{comma_behind, list_behind}
+use Rattle.walter_page.specs.Words.{listed}
+use Rattle.walter_page.proofs.Going.{cuts, cut_more, cut_as, put_as, put_last, puts_as, goes_from, goes_on, goes_as, goes_err}
+use Rattle.walter_page.proofs.Joined.{listed_behind, list_behind-next}
+use Rattle.walter_page.proofs.lists.put_counts.Goals as goal
 
 none : (counts : List ℕ) → length counts ≡ 0 → 45 ∷ [] ≡ listed (map decimal counts)
 none [] is = refl

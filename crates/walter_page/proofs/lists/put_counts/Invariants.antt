@@ -1,9 +1,9 @@
 use Rattle.std.proofs.Common.{◌++◌, drop, map, nat_lt}
 use Rattle.std.specs.Fmt.{decimal}
-use Rattle.walter_report.specs.Lists.{list_behind}
-use Rattle.walter_report.specs.Words.{listed}
-use Rattle.walter_report.proofs.Going.{Goes}
-use Rattle.walter_report.proofs.lists.put_counts.Given as goal
+use Rattle.walter_page.specs.Lists.{list_behind}
+use Rattle.walter_page.specs.Words.{listed}
+use Rattle.walter_page.proofs.Going.{Goes}
+use Rattle.walter_page.proofs.lists.put_counts.Given as goal
 
 abbrev pub invariant-loop-place : goal.invariant-loop-place
 invariant-loop-place g l =

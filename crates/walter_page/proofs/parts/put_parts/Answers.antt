@@ -1,9 +1,8 @@
 use Rattle.std.proofs.Common.{◌+◌, drop, flat_map}
-use Rattle.walter_report.specs.Parts.{part_text}
-use Rattle.walter_report.proofs.Going.{goes_first, goes_on, goes_as, goes_err}
-use Rattle.walter_report.proofs.Lined.{parts_text-flat}
-use Rattle.walter_report.proofs.Tallied.{flat_map-drop_next}
-use Rattle.walter_report.proofs.parts.put_parts.Goals as goal
+use Rattle.walter_page.specs.Parts.{part_text}
+use Rattle.walter_page.proofs.Going.{goes_first, goes_on, goes_as, goes_err}
+use Rattle.walter_page.proofs.Parted.{flat_map-drop_next, parts_text-flat}
+use Rattle.walter_page.proofs.parts.put_parts.Goals as goal
 
 pub loop-part-init : goal.loop-part-init
 loop-part-init g c =

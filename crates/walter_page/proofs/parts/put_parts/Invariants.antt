@@ -1,7 +1,7 @@
 use Rattle.std.proofs.Common.{drop, flat_map}
-use Rattle.walter_report.specs.Parts.{part_text, parts_text}
-use Rattle.walter_report.proofs.Going.{Goes}
-use Rattle.walter_report.proofs.parts.put_parts.Given as goal
+use Rattle.walter_page.specs.Parts.{part_text, parts_text}
+use Rattle.walter_page.proofs.Going.{Goes}
+use Rattle.walter_page.proofs.parts.put_parts.Given as goal
 
 abbrev pub invariant-loop-part : goal.invariant-loop-part
 invariant-loop-part g l =

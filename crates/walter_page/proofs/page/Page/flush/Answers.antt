@@ -1,6 +1,6 @@
 use Rattle.std.proofs.Common.{sym, ◌∙◌, append-nil}
-use Rattle.walter_report.proofs.Going.{cuts, cut_front}
-use Rattle.walter_report.proofs.page.Page.flush.Goals as goal
+use Rattle.walter_page.proofs.Going.{cuts, cut_front}
+use Rattle.walter_page.proofs.page.Page.flush.Goals as goal
 
 pub returns-in_err-write_all-clause-put : goal.returns-in_err-write_all-clause-put
 returns-in_err-write_all-clause-put g c =

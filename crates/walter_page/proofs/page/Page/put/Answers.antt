@@ -1,7 +1,7 @@
 use Rattle.std.proofs.Common.{◌≡◌, ◌++◌, ◌∙◌, sym}
 use Rattle.std.proofs.lemmas.List.{take-append-drop}
-use Rattle.walter_report.proofs.Going.{goes_on, goes_last, goes_as, goes_err}
-use Rattle.walter_report.proofs.page.Page.put.Goals as goal
+use Rattle.walter_page.proofs.Going.{goes_on, goes_last, goes_as, goes_err}
+use Rattle.walter_page.proofs.page.Page.put.Goals as goal
 
 pub loop-left-preserved : goal.loop-left-preserved
 loop-left-preserved g c =

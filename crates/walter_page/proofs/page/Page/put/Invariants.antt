@@ -1,6 +1,6 @@
 use Rattle.std.proofs.Common.{length}
-use Rattle.walter_report.proofs.Going.{Goes}
-use Rattle.walter_report.proofs.page.Page.put.Given as goal
+use Rattle.walter_page.proofs.Going.{Goes}
+use Rattle.walter_page.proofs.page.Page.put.Given as goal
 
 abbrev pub invariant-loop-left : goal.invariant-loop-left
 invariant-loop-left g l =

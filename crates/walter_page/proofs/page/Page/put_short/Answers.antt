@@ -1,5 +1,5 @@
-use Rattle.walter_report.proofs.Going.{goes_first, goes_err}
-use Rattle.walter_report.proofs.page.Page.put_short.Goals as goal
+use Rattle.walter_page.proofs.Going.{goes_first, goes_err}
+use Rattle.walter_page.proofs.page.Page.put_short.Goals as goal
 
 pub returns-in_err-flush : goal.returns-in_err-flush
 returns-in_err-flush g c =
