@@ -5,3 +5,5 @@ pub mod Adding
 pub mod Owning
 pub mod Marked
 pub mod Leaving
+pub mod Firsts
+pub mod Busy
