@@ -326,6 +326,7 @@ module _ (catalog : Catalog) (i : SiteId) (K : Knowledge) (L : IsLearned catalog
   listing_then (SlowBegin n tx) = listing_with tx.tid (objects_at catalog K i tx.updates)
   listing_then (SlowEnd n) = listing_without (K.part i n)
   listing_then (Marks durable visible) = L.listing
+  listing_then FormatRecord = L.listing
 
   -- what it holds changes what the catalog has
   abbrev pub AreLogged : List Held → Type 0
@@ -347,6 +348,7 @@ module _ (catalog : Catalog) (i : SiteId) (K : Knowledge) (L : IsLearned catalog
   logged_then (SlowBegin n tx) f = L.logged
   logged_then (SlowEnd n) f = L.logged
   logged_then (Marks durable visible) f = L.logged
+  logged_then FormatRecord f = L.logged
 
   -- containers are handed to sites of the catalog
   homes_more : (updates : List Update) → are_declared catalog updates ≡ true → HasHomes catalog → (container : ℕ)
@@ -378,6 +380,7 @@ module _ (catalog : Catalog) (i : SiteId) (K : Knowledge) (L : IsLearned catalog
   homes_then (SlowBegin n tx) f = L.homes
   homes_then (SlowEnd n) f = L.homes
   homes_then (Marks durable visible) f = L.homes
+  homes_then FormatRecord f = L.homes
 
   -- own commits are to be held at sites of the catalog
   place_below : HasHomes catalog → (u : Update) (k : SiteId) → is_declared catalog u ≡ true
@@ -419,6 +422,7 @@ module _ (catalog : Catalog) (i : SiteId) (K : Knowledge) (L : IsLearned catalog
   placed_then whole (SlowBegin n tx) f = L.placed whole
   placed_then whole (SlowEnd n) f = L.placed whole
   placed_then whole (Marks durable visible) f = L.placed whole
+  placed_then whole FormatRecord f = L.placed whole
 
   -- who is asked, and what is written, of each slow commit
   abbrev pub IsSlowOf : Slow → (SiteId → List ObjId) → Type 0

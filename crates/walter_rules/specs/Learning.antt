@@ -182,6 +182,7 @@ locked_after catalog i K (Some (Own seq tx)) = without_locked (K.part i tx.slow)
 locked_after catalog i K (Some (Boot epoch)) = filter (λ oid. not (is_locked_here i K oid)) K.locked
 locked_after catalog i K (Some (Got k seq tx)) = K.locked
 locked_after catalog i K (Some (Marks durable visible)) = K.locked
+locked_after catalog i K (Some FormatRecord) = K.locked
 
 abbrev pub durable_after : Option Record → ℕ → ℕ
 durable_after None floor = floor
