@@ -263,10 +263,12 @@ module _ (catalog : Catalog) (W Then : Stands) (put : Put) (A : AreAgreed catalo
       (same_parts (Marks durable visible) R (λ j n. refl)) A.locked)
 
   by_format_record : IsRecorded catalog i (Some FormatRecord) W Then → IsCore catalog Then
-  by_format_record R = quiet FormatRecord R refl (λ k. refl) (λ k. refl)
-      (locked_same (home catalog) (owns W) (owns W) (logs W) (logs W) (counts W) (counts W) (slows W) (slows Then)
-      (parts W) (parts Then) (λ k. refl) (λ k. refl) (λ p k. refl)
-      (same_slows FormatRecord R (λ n. refl)) (same_parts FormatRecord R (λ j n. refl)) A.locked)
+  by_format_record R = quiet FormatRecord R refl (λ k. refl) (λ k. refl) (λ c. refl)
+      (locked_same (prefers catalog W) (prefers catalog W) (owns W) (owns W) (logs W) (logs W) (counts W) (counts W)
+      (slows W)
+      (slows Then) (wants W) (wants Then) (parts W) (parts Then) (λ p c. refl) (λ k. refl) (λ k. refl) (λ p k. refl)
+      (same_slows FormatRecord R (λ n. refl)) (same_wants FormatRecord R (λ n k. refl))
+      (same_parts FormatRecord R (λ j n. refl)) A.locked)
 
   by_begin_record : (n : ℕ) (x : Tx) → IsRecorded catalog i (Some (SlowBegin n x)) W Then
       → IsDue catalog W put i (SlowBegin n x) → IsCore catalog Then
