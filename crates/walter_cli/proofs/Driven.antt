@@ -13,10 +13,10 @@ use Rattle.walter_scenario.specs.declared.scenario.Step.{Step}
 use Rattle.walter_work.proofs.Driven.{driven_fewer}
 use Rattle.walter_work.specs.Driven.{IsDriven}
 use Rattle.walter_words.specs.declared.asked.Command.{Command}
-use Rattle.walter_words.specs.declared.asked.Command.TheVariants.{Play, Run, Load, Say}
-use Rattle.walter_words.specs.Words.{IsText}
+use Rattle.walter_words.specs.declared.asked.Command.TheVariants.{Play, Run, Load, Audit, Say}
 use Rattle.walter_cli.specs.Ending.{Drives, HasStepsFor}
 use Rattle.walter_cli.specs.Headline.{ArmsOfSites, IsDrivenBy}
+use Rattle.walter_cli.specs.Words.{CanBeRun}
 
 -- ---- no steps
 
@@ -36,6 +36,7 @@ pub armed_by : (command : Command) (told : ℕ → Type 0) (t : Scenario) (old n
 armed_by (Play trace disks) told t old new plays = all_armed told t _ _ plays.1
 armed_by (Run trace disks) told t old new drives = drives.1
 armed_by (Load seed calls) told t old new plays = all_armed told t _ _ plays.1
+armed_by (Audit disks) told t old new drives = absurd drives
 armed_by (Say text) told t old new drives = absurd drives
 
 -- ---- what is driven
@@ -51,12 +52,13 @@ threads_drive command trace disks told fails t old new is has never driven armed
     )
 
 -- the steps that were taken are what every other run asks for
-pub steps_drive : (command : Command) (told : ℕ → Type 0) (t : Scenario) (old new : Moment) → ¬ IsText command
+pub steps_drive : (command : Command) (told : ℕ → Type 0) (t : Scenario) (old new : Moment) → CanBeRun command
     → ((trace : Bool) (disks : Option (List ℕ)) → command ≡ Run trace disks → ⊥) → EndsPlay told t old new → Drives command told t old new
-steps_drive (Play trace disks) told t old new no_text no_run plays = plays
-steps_drive (Run trace disks) told t old new no_text no_run plays = absurd (no_run trace disks refl)
-steps_drive (Load seed calls) told t old new no_text no_run plays = plays
-steps_drive (Say text) told t old new no_text no_run plays = absurd (no_text tt)
+steps_drive (Play trace disks) told t old new runs no_run plays = plays
+steps_drive (Run trace disks) told t old new runs no_run plays = absurd (no_run trace disks refl)
+steps_drive (Load seed calls) told t old new runs no_run plays = plays
+steps_drive (Audit disks) told t old new runs no_run plays = absurd runs
+steps_drive (Say text) told t old new runs no_run plays = absurd runs
 
 -- steps that were taken from the first moment on make the trails and the arms of the last
 played_from : (told : ℕ → Type 0) (t : Scenario) (first last : Moment) (trails : List (List Entry)) (arms : ArmsOfSites)
@@ -81,6 +83,7 @@ driven_from (Run trace disks) told t first last trails arms begins ends arms_are
     subst (λ (ts : List (List Entry)). IsDriven told ⊥ t ts) ends drives.0
 driven_from (Load seed calls) told t first last trails arms begins ends arms_are plays =
     played_from told t first last trails arms begins ends arms_are plays
+driven_from (Audit disks) told t first last trails arms begins ends arms_are drives = absurd drives
 driven_from (Say text) told t first last trails arms begins ends arms_are drives = absurd drives
 
 -- ---- where fewer sites are told
@@ -103,6 +106,7 @@ pub driven_by_fewer : (command : Command) (told fewer : ℕ → Type 0) (t : Sce
 driven_by_fewer (Play trace disks) told fewer t trails arms so played = played_fewer told fewer t trails arms so played
 driven_by_fewer (Run trace disks) told fewer t trails arms so driven = driven_fewer told fewer ⊥ ⊥ so (λ never. never) t trails driven
 driven_by_fewer (Load seed calls) told fewer t trails arms so played = played_fewer told fewer t trails arms so played
+driven_by_fewer (Audit disks) told fewer t trails arms so driven = absurd driven
 driven_by_fewer (Say text) told fewer t trails arms so driven = absurd driven
 
 -- ---- answers

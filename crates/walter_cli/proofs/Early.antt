@@ -20,7 +20,7 @@ use Rattle.walter_cli.proofs.Trails.{field_of}
 use Rattle.walter_cli.proofs.Giving.{IsReturned, each_back, one_back, took_all, balances, holds_taken, of_reads, none_balances, none_more, more_so}
 
 -- where none was handed back, each is
-each_none : {D : Type 0} (g : Ghosts D) (before after : RackAt D) (P : ℕ → OfADisk) → after.handed ≡ before.handed
+pub each_none : {D : Type 0} (g : Ghosts D) (before after : RackAt D) (P : ℕ → OfADisk) → after.handed ≡ before.handed
     → (racked g before after).each P
 each_none {D = D} g before after P same =
     more_so before.handed after.handed [] (AreSo g P) (same ∙ none_more before.handed)

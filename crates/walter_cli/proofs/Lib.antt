@@ -8,3 +8,5 @@ pub mod Finished
 pub mod Runs
 pub mod Sure
 pub mod Wholes
+pub mod Audited
+pub mod Judging

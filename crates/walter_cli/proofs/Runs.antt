@@ -26,13 +26,13 @@ use Rattle.walter_cli.specs.Statuses.{status_of}
 use Rattle.walter_cli.specs.Words.{Asks, AskForNone, IsForText, IsPosed, IsRead, IsWrong, Poses, but_for_steps}
 use Rattle.walter_words.specs.Words.{AsksForText}
 use Rattle.walter_words.specs.declared.asked.Command.{Command}
-use Rattle.walter_words.specs.declared.asked.Command.TheVariants.{Play, Run, Load, Say}
+use Rattle.walter_words.specs.declared.asked.Command.TheVariants.{Play, Run, Load, Audit, Say}
 use Rattle.walter_cli.proofs.Causes.{cause_has_record, one_cause}
 use Rattle.walter_cli.proofs.Giving.{of_both}
 use Rattle.walter_cli.proofs.Wholes.{reading_playable}
 
 -- what a source that has no reading gave is wrong at the place that is named
-none_wrong : (before after : Option (List ℕ)) (bytes : List ℕ) (place : Place) → HasNoReading before after place
+pub none_wrong : (before after : Option (List ℕ)) (bytes : List ℕ) (place : Place) → HasNoReading before after place
     → before ≡ Some bytes → IsRefusedAt bytes place
 none_wrong before after bytes place none told = here after none.wrong (sym told ∙ none.taken)
   where
@@ -53,7 +53,7 @@ none_wrong before after bytes place none told = here after none.wrong (sym told 
         ]
 
 -- a scenario that was taken is what the bytes that are told spell
-taken_reading : (before after : Option (List ℕ)) (bytes : List ℕ) (s : Scenario) → IsTaken before after s
+pub taken_reading : (before after : Option (List ℕ)) (bytes : List ℕ) (s : Scenario) → IsTaken before after s
     → before ≡ Some bytes → IsReading bytes s
 taken_reading before after bytes s taken told = here after taken.source.end (sym told ∙ taken.source.taken)
   where
@@ -72,6 +72,7 @@ posed_one (Run trace disks) before after t s posed poses =
     let same = one_scenario poses.0 posed.0 poses.1 (taken_reading before after poses.0 posed.0 posed.1 poses.2) poses.3 in
     posed.2 ∙ (ap but_for_steps same ∙ sym poses.4)
 posed_one (Load seed calls) before after t s posed poses = posed.0 ∙ sym poses
+posed_one (Audit disks) before after t s posed poses = absurd poses
 posed_one (Say text) before after t s posed poses = absurd poses
 
 -- bytes that are read and pose a scenario have a reading
@@ -80,10 +81,11 @@ poses_reading : (command : Command) (left : Option (List ℕ)) (s : Scenario) �
 poses_reading (Play trace disks) left s reads poses = (poses.0, s, poses.1, poses.2)
 poses_reading (Run trace disks) left s reads poses = (poses.0, poses.1, poses.2, poses.3)
 poses_reading (Load seed calls) left s reads poses = absurd reads
+poses_reading (Audit disks) left s reads poses = absurd reads
 poses_reading (Say text) left s reads poses = absurd reads
 
 -- the capacity of what is posed is that of a disk
-reading_small : (bytes : List ℕ) (s : Scenario) → IsReading bytes s → s.capacity < 2 ^ 64
+pub reading_small : (bytes : List ℕ) (s : Scenario) → IsReading bytes s → s.capacity < 2 ^ 64
 reading_small bytes s reading = let most = (reading_playable bytes s reading).capacity.1 in omega (arith, most)
 
 poses_small : (command : Command) (left : Option (List ℕ)) (s : Scenario) → Poses command left s → s.capacity < 2 ^ 64
@@ -94,6 +96,7 @@ poses_small (Run trace disks) left s poses =
     omega (arith, small, same)
 poses_small (Load seed calls) left s poses =
     let same : s.capacity ≡ 16777216 = ap (λ (t : Scenario). t.capacity) poses in omega (arith, same)
+poses_small (Audit disks) left s poses = absurd poses
 poses_small (Say text) left s poses = absurd poses
 
 -- bytes that have no reading pose nothing
@@ -110,6 +113,7 @@ posed_reading (Play trace disks) before after bytes s reads posed told = (s, tak
 posed_reading (Run trace disks) before after bytes s reads posed told =
     (posed.0, taken_reading before after bytes posed.0 posed.1 told)
 posed_reading (Load seed calls) before after bytes s reads posed told = absurd reads
+posed_reading (Audit disks) before after bytes s reads posed told = absurd reads
 posed_reading (Say text) before after bytes s reads posed told = absurd reads
 
 -- the first site whose disk is unfit is one, for one cause
@@ -440,6 +444,7 @@ module _ (words : List (String Global)) (rack : Racked) (before after : Outside)
         by (Load seed calls) is why =
             promise (Some Memory) (named ∙ ap (λ f. Some f) why.0) tt (λ not_done not_cut. same) (inl (none, inl untaken))
             (λ k bytes place asked is_read left wrong source. inr (status ∙ ap status_of (named ∙ ap (λ f. Some f) why.0)))
+        by (Audit disks) is why = absurd why
         by (Say text) is why = absurd why
 
   -- ---- no run was begun

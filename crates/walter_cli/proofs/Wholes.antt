@@ -3,7 +3,8 @@ use Rattle.std.proofs.Common.{◌≡◌, ◌<◌, ◌+◌, ◌-◌, ◌^◌, ℕ
 use Rattle.std.proofs.lemmas.List.FromFn.{get_or-map-range_with_len, length-map-range_with_len}
 use Rattle.std.proofs.lemmas.Option.{slice_get-get_or, slice_get_within}
 use Rattle.std.specs.List.{range_with_len}
-use Rattle.std.specs.Prelude.{All, map}
+use Rattle.std.specs.Prelude.{All, map, String}
+use Rattle.std.specs.Global.{Global}
 use Rattle.std.proofs.Math.Nat.{mod-lt}
 use Rattle.std.proofs.lemmas.List.Elements.{All-nil}
 use Rattle.walter_scenario.proofs.Sent.{all_sites}
@@ -17,9 +18,9 @@ use Rattle.walter_make.specs.Made.{made, made_catalog, made_client, made_contain
 use Rattle.walter_scenario.specs.declared.scenario.Scenario.{Scenario}
 use Rattle.walter_scenario.specs.Scenarios.{GivesAreas, GivesArms, GivesCapacity, GivesThreads, IsReading}
 use Rattle.walter_words.specs.declared.asked.Command.{Command}
-use Rattle.walter_words.specs.declared.asked.Command.TheVariants.{Play, Run, Load, Say}
+use Rattle.walter_words.specs.declared.asked.Command.TheVariants.{Play, Run, Load, Audit, Say}
 use Rattle.walter_cli.specs.Ending.{HasStepsFor, IsPlayable}
-use Rattle.walter_cli.specs.Words.{IsPosed, but_for_steps}
+use Rattle.walter_cli.specs.Words.{Asks, CanBeRun, IsPosed, but_for_steps}
 
 -- ---- a reading
 
@@ -108,12 +109,22 @@ made_few seed calls = let long = length-map-range_with_len (made_client (made_ca
 
 -- ---- what is posed
 
+-- what words ask for that isn't an audit can be run
+pub can_be_run : (command : Command) (words : List (String Global)) → Asks command words
+    → ((disks : Option (List ℕ)) → command ≡ Audit disks → ⊥) → CanBeRun command
+can_be_run (Play trace disks) words asks other = tt
+can_be_run (Run trace disks) words asks other = tt
+can_be_run (Load seed calls) words asks other = asks.10
+can_be_run (Audit disks) words asks other = absurd (other disks refl)
+can_be_run (Say text) words asks other = absurd asks
+
 -- a scenario that is posed has a site
 pub posed_some : (command : Command) (before after : Option (List ℕ)) (s : Scenario) → IsPosed command before after s → 0 < s.catalog.sites
 posed_some (Play trace disks) before after s posed = (reading_playable posed.bytes s posed.reading).some
 posed_some (Run trace disks) before after s posed =
     subst (λ (t : Scenario). 0 < t.catalog.sites) (sym posed.2) (reading_playable posed.1.bytes posed.0 posed.1.reading).some
 posed_some (Load seed calls) before after s posed = subst (λ (t : Scenario). 0 < t.catalog.sites) (sym posed.0) (omega arith)
+posed_some (Audit disks) before after s posed = absurd posed
 posed_some (Say text) before after s posed = absurd posed
 
 -- and no steps where threads drive it
@@ -122,4 +133,5 @@ pub posed_steps : (command : Command) (before after : Option (List ℕ)) (s : Sc
 posed_steps (Play trace disks) before after s posed = tt
 posed_steps (Run trace disks) before after s posed = ap (λ (t : Scenario). t.steps) posed.2
 posed_steps (Load seed calls) before after s posed = tt
+posed_steps (Audit disks) before after s posed = posed
 posed_steps (Say text) before after s posed = posed

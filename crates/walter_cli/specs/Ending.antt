@@ -24,7 +24,7 @@ use Rattle.walter_cli.specs.Headline.{IsRun, ArmsOfSites, IsWholeRun, OfText, Is
 use Rattle.walter_cli.specs.Racks.{RackAt, Racked, IsUntouched, IsFaultlessBefore, FailsToTake, FailsToLoad}
 use Rattle.walter_cli.specs.Sources.{HasNoReading}
 use Rattle.walter_words.specs.declared.asked.Command.{Command}
-use Rattle.walter_words.specs.declared.asked.Command.TheVariants.{Play, Run, Load, Say}
+use Rattle.walter_words.specs.declared.asked.Command.TheVariants.{Play, Run, Load, Audit, Say}
 
 -- why no scenario was taken from a source that had failed so often, and has now
 abbrev pub IsTakeFault : Option (List ℕ) → Option (List ℕ) → ℕ → ℕ → Fault → Type 0
@@ -38,6 +38,7 @@ abbrev pub IsPoseFault : Command → Option (List ℕ) → Option (List ℕ) →
 IsPoseFault (Play trace disks) before after faults faults' fault = IsTakeFault before after faults faults' fault
 IsPoseFault (Run trace disks) before after faults faults' fault = IsTakeFault before after faults faults' fault
 IsPoseFault (Load seed calls) before after faults faults' fault = (fault ≡ Memory) × (after ≡ before)
+IsPoseFault (Audit disks) before after faults faults' fault = ⊥
 IsPoseFault (Say text) before after faults faults' fault = ⊥
 
 -- a scenario that can be played: its sites are few, and fewer may be lost; its containers, clients, arms and steps are of
@@ -60,6 +61,7 @@ abbrev pub HasStepsFor : Command → Scenario → Type 0
 HasStepsFor (Play trace disks) s = Unit {0}
 HasStepsFor (Run trace disks) s = s.steps ≡ []
 HasStepsFor (Load seed calls) s = Unit {0}
+HasStepsFor (Audit disks) s = ⊥
 HasStepsFor (Say text) s = ⊥
 
 -- the sites of a scenario were driven from this moment to that one: by all its steps; or by threads, behind its arms
@@ -67,6 +69,7 @@ abbrev pub Drives : Command → (told : ℕ → Type 0) → Scenario → (old ne
 Drives (Play trace disks) told s old new = EndsPlay told s old new
 Drives (Run trace disks) told s old new = IsDriven told ⊥ s new.trails × AreArmed old new (s.arms ++ arms_of s.steps)
 Drives (Load seed calls) told s old new = EndsPlay told s old new
+Drives (Audit disks) told s old new = ⊥
 Drives (Say text) told s old new = ⊥
 
 -- a text was written, or a front of it

@@ -44,7 +44,7 @@ use Rattle.walter_cli.specs.Words.{Asks, AskForNone, IsForText, IsPosed, IsRead,
 use Rattle.walter_work.specs.Driven.{IsDriven}
 use Rattle.walter_words.specs.Words.{AsksForText}
 use Rattle.walter_words.specs.declared.asked.Command.{Command}
-use Rattle.walter_words.specs.declared.asked.Command.TheVariants.{Play, Run, Load, Say}
+use Rattle.walter_words.specs.declared.asked.Command.TheVariants.{Play, Run, Load, Audit, Say}
 
 -- ---- the outside
 
@@ -150,6 +150,7 @@ abbrev pub IsDrivenBy : Command → (told : ℕ → Type 0) → Scenario → Lis
 IsDrivenBy (Play trace disks) told s trails arms = IsPlayed told s trails arms
 IsDrivenBy (Run trace disks) told s trails arms = IsDriven told ⊥ s trails
 IsDrivenBy (Load seed calls) told s trails arms = IsPlayed told s trails arms
+IsDrivenBy (Audit disks) told s trails arms = ⊥
 IsDrivenBy (Say text) told s trails arms = ⊥
 
 -- it was driven to its end; all disks were handed back, armed as it says

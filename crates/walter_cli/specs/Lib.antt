@@ -4,6 +4,8 @@ pub mod Words
 pub mod Racks
 pub mod Promises
 pub mod Headline
+pub mod Audits
+pub mod Auditing
 pub mod Hosts
 pub mod Disks
 pub mod Ending

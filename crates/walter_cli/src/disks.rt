@@ -1,6 +1,8 @@
 //! The disks of a run: they are taken from a rack, and given back.
-ghost use Rattle.std.specs.Prelude.{◌≡◌, ◌<◌, ◌≤◌, ◌+◌, length, IfOk, IfErr, OnOk};
+ghost use Rattle.std.specs.Prelude.{◌≡◌, ◌<◌, ◌≤◌, ◌+◌, length, IfOk, IfErr, OnOk, OnErr};
 ghost use Rattle.walter_base.specs.Vectors.{most_sites};
+ghost use Rattle.walter_cli.specs.Auditing.{IsWhyUntaken};
+ghost use Rattle.walter_cli.specs.Audits.{IsKept};
 ghost use Rattle.walter_cli.specs.Disks.{AreTaken, AreGiven, IsFirstLost, lost_after};
 ghost use Rattle.walter_cli.specs.Ending.{EndsEarly};
 ghost use Rattle.walter_cli.specs.Racks.{rack_at, racked};
@@ -22,6 +24,10 @@ pub fn take_all<R: Rack>(
         disks.items) }
     ensures fault { IfErr result (EndsEarly (racked R.D.Disk (rack_at R.Rack rack.old) (rack_at R.Rack rack.new))
         scenario.now) }
+    ensures untaken { IfErr result (IsWhyUntaken (racked R.D.Disk (rack_at R.Rack rack.old) (rack_at R.Rack rack.new))
+        scenario.now) }
+    ensures kept { OnErr result ((racked R.D.Disk (rack_at R.Rack rack.old) (rack_at R.Rack rack.new)).each
+        (IsKept (racked R.D.Disk (rack_at R.Rack rack.old) (rack_at R.Rack rack.new)))) }
 {
     let sites = scenario.catalog.sites;
     let Ok(mut disks) = Vec::with_capacity(alloc, usize::from(sites)) else {

@@ -1,5 +1,5 @@
 //! How a call of the program ended.
-ghost use Rattle.std.specs.Prelude.{◌≡◌, [], Some};
+ghost use Rattle.std.specs.Prelude.{◌≡◌, [], Some, None};
 
 use std::alloc::Global;
 use thiserror::Error;
@@ -17,7 +17,7 @@ pub enum JournalCause {
     Used,
 }
 
-/// Why a run wrote no whole report.
+/// Why a run wrote no whole report, or an audit not all that it found.
 #[derive(Debug, Drop, PartialEq, Eq, Error)]
 pub enum Fault {
     /// What is wrong with the words, in some lines, with a hint at `--help`.
@@ -47,8 +47,8 @@ pub enum Fault {
     },
 }
 
-/// How a call of the program ended: its status, the fault if the status isn't 0, and the trails of its run. There are
-/// none where no run began.
+/// How a call of the program ended: its status, the fault if the status is neither 0 nor 8, and the trails of its run.
+/// There are none where no run began.
 #[derive(Debug, Drop)]
 pub struct Ended {
     pub status: u8,
@@ -66,6 +66,19 @@ impl Ended {
         ensures trails { result.trails.items ≡ [] }
     {
         Ended::late(Vec::new(alloc), Some(fault))
+    }
+
+    /// The end of an audit that says no.
+    pub fn refuted(alloc: Global) -> Ended
+        ensures status { result.status ≡ 8 }
+        ensures fault { result.fault ≡ None }
+        ensures trails { result.trails.items ≡ [] }
+    {
+        Ended {
+            status: 8,
+            fault: None,
+            trails: Vec::new(alloc),
+        }
     }
 
     /// The end of a call whose run has these trails.

@@ -1,6 +1,8 @@
-//! The program: reads a scenario or makes one, plays it or lets threads run it, and writes what came of it.
+//! The program: reads a scenario or makes one, plays it, lets threads run it or audits its journals, and writes what
+//! came of it.
 #![tactic(auto)]
 
+mod auditing;
 mod disks;
 mod ended;
 mod file_fault;

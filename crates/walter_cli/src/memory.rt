@@ -2,7 +2,9 @@
 ghost use Rattle.std.specs.Prelude.{◌≡◌, List, String};
 ghost use Rattle.std.specs.Global.{Global};
 ghost use Rattle.walter_cli.specs.Assurance.{Assures, in_memory};
+ghost use Rattle.walter_cli.specs.Audits.{AuditPromise};
 ghost use Rattle.walter_cli.specs.Headline.{Outside, outside_at};
+ghost use Rattle.walter_cli.specs.Words.{AskForAudit};
 
 use crate::ended::{Ended, Fault};
 use crate::program::top;
@@ -16,6 +18,7 @@ use walter_stream::{Sink, Source};
 pub(crate) fn without_memory(alloc: Global) -> (Ended, MemoryRack)
     ensures assured { (words : List (String Global)) (outside : Outside)
         → Assures words (in_memory result.1) outside outside result.0 }
+    ensures audit { (outside : Outside) → AuditPromise (in_memory result.1) outside outside result.0 }
     ensures status { result.0.status ≡ 5 }
 {
     (Ended::early(alloc, Fault::Memory), MemoryRack::new(alloc))
@@ -29,7 +32,11 @@ pub fn top_in_memory<X: AllocGlobal + Threads + Wait + Sync, S: Source, K: Sink>
     source: &mut S,
     sink: &mut K,
 ) -> (Ended, MemoryRack)
-    ensures { Assures words.now (in_memory result.1)
+    ensures assured { ¬ AskForAudit words.now → Assures words.now (in_memory result.1)
+        (outside_at S.Source K.Sink source.old sink.old)
+        (outside_at S.Source K.Sink source.new sink.new)
+        result.0 }
+    ensures audit { AskForAudit words.now → AuditPromise (in_memory result.1)
         (outside_at S.Source K.Sink source.old sink.old)
         (outside_at S.Source K.Sink source.new sink.new)
         result.0 }

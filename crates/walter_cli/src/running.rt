@@ -7,14 +7,13 @@ ghost use Rattle.walter_cluster.specs.Benches.{AreAllConnected, AreMet, EachKeep
 ghost use Rattle.walter_cluster.specs.Moments.{IsFirst, moment_of};
 ghost use Rattle.walter_play.specs.Scripts.{ArmsMore, arms_of};
 ghost use Rattle.walter_report.specs.Reports.{HaveFrames};
-ghost use Rattle.walter_report.specs.Texts.{IsUnwritten};
+ghost use Rattle.walter_page.specs.Unwritten.{IsUnwritten};
 ghost use Rattle.walter_report.specs.Traces.{HaveSpellings};
 ghost use Rattle.walter_stream.specs.Streams.{Appends};
 ghost use Rattle.walter_cli.specs.Ending.{Drives, EndsRun, EndsEarly, HasStepsFor, IsBuilt, IsPlayable, IsWriteFault, fault_of};
 ghost use Rattle.walter_cli.specs.Racks.{rack_at, racked};
 ghost use Rattle.walter_cli.specs.Statuses.{status_of};
-ghost use Rattle.walter_cli.specs.Words.{written_by};
-ghost use Rattle.walter_words.specs.Words.{IsText};
+ghost use Rattle.walter_cli.specs.Words.{CanBeRun, written_by};
 
 use crate::disks::{give_all, take_all};
 use crate::ended::{Ended, Fault, JournalCause};
@@ -26,8 +25,9 @@ use walter_base::{Format, Mem};
 use walter_cluster::{Bench, Closed, Unbuilt, build};
 use walter_disk::{Disk, Rack};
 use walter_engine::BeginFault;
+use walter_page::WriteFault;
 use walter_play::{open_lines, play};
-use walter_report::{WriteFault, write_report, write_summary};
+use walter_report::{write_report, write_summary};
 use walter_scenario::Scenario;
 use walter_stream::{BytesSource, NullSink, Sink};
 use walter_trail::Trail;
@@ -43,7 +43,7 @@ pub fn run<X: Threads + Wait + Sync, K: Sink, R: Rack>(
     sink: &mut K,
     rack: &mut R,
 ) -> Ended
-    requires running { ¬ IsText command.now }
+    requires running { CanBeRun command.now }
     requires playable { IsPlayable scenario.now }
     requires driven { HasStepsFor command.now scenario.now }
     ensures status { result.status ≡ status_of result.fault }
@@ -91,7 +91,7 @@ fn drive<X: Threads + Wait + Sync, D: Disk + Drop + Send>(
     bench: Bench<D, BytesSource, NullSink>,
     scenario: &Scenario,
 ) -> (Bench<D, BytesSource, NullSink>, Mem<()>)
-    requires running { ¬ IsText command.now }
+    requires running { CanBeRun command.now }
     requires playable { IsPlayable scenario.now }
     requires of { IsOf scenario.now bench }
     requires connected { AreAllConnected scenario.now bench }
@@ -172,7 +172,7 @@ fn write_result<K: Sink>(
     trails: &[Trail],
     sink: &mut K,
 ) -> Result<(), Fault>
-    requires running { ¬ IsText command.now }
+    requires running { CanBeRun command.now }
     requires few { length trails.now ≤ most_sites }
     requires frames { HaveFrames trails.now }
     requires headers { (length headers.now ≡ length trails.now)
@@ -199,7 +199,7 @@ fn write_text<K: Sink>(
     trails: &[Trail],
     sink: &mut K,
 ) -> Result<(), WriteFault>
-    requires running { ¬ IsText command.now }
+    requires running { CanBeRun command.now }
     requires few { length trails.now ≤ most_sites }
     requires frames { HaveFrames trails.now }
     requires headers { (length headers.now ≡ length trails.now)
@@ -215,6 +215,6 @@ fn write_text<K: Sink>(
             write_report(alloc, scenario, *trace, headers, trails, sink)
         }
         Command::Load { seed, calls } => write_summary(alloc, *seed, *calls, trails, sink),
-        Command::Say(_) => unreachable!(),
+        Command::Audit { .. } | Command::Say(_) => unreachable!(),
     }
 }

@@ -1,4 +1,4 @@
-//! The scenario that a command runs: it is read, or made.
+//! The scenario that a command runs or audits: it is read, or made.
 ghost use Rattle.std.specs.Prelude.{◌≡◌, IfOk, IfErr};
 ghost use Rattle.walter_cli.specs.Ending.{IsPlayable, IsPoseFault, IsTakeFault};
 ghost use Rattle.walter_cli.specs.Sources.{IsTaken};
@@ -26,7 +26,7 @@ pub fn pose<S: Source>(alloc: Global, command: &Command, source: &mut S) -> Resu
             Ok(scenario) => Ok(scenario),
             Err(_) => Err(Fault::Memory),
         },
-        Command::Say(_) => unreachable!(),
+        Command::Audit { .. } | Command::Say(_) => unreachable!(),
     }
 }
 
@@ -40,8 +40,8 @@ fn without_steps(alloc: Global, scenario: Scenario) -> Scenario
     }
 }
 
-// The scenario that the bytes of the source spell, read to their end.
-fn take_scenario<S: Source>(alloc: Global, source: &mut S) -> Result<Scenario, Fault>
+/// The scenario that the bytes of the source spell, read to their end.
+pub fn take_scenario<S: Source>(alloc: Global, source: &mut S) -> Result<Scenario, Fault>
     ensures ok { IfOk result (IsTaken (S.left source.old) (S.left source.new)) }
     ensures fault { IfErr result
         (IsTakeFault (S.left source.old) (S.left source.new) (S.faults source.old) (S.faults source.new)) }

@@ -1,9 +1,6 @@
 pub mod Columned
 pub mod Counted
-pub mod Digits
 pub mod Fitting
-pub mod Going
-pub mod Joined
 pub mod Lined
 pub mod Logged
 pub mod Merged

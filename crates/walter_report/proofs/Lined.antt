@@ -1,20 +1,9 @@
--- The parts of a line, and lines, one behind the other.
-use Rattle.std.proofs.Common.{◌≡◌, ◌<◌, ◌+◌, ℕ, List, [], ◌∷◌, ◌++◌, length, drop, get_or, flat_map, refl, sym, ap, ◌∙◌, append_assoc, append-nil}
+-- Lines, one behind the other.
+use Rattle.std.proofs.Common.{◌≡◌, ◌<◌, ◌+◌, ℕ, List, ◌++◌, length, drop, get_or, sym, ap, ◌∙◌}
 use Rattle.std.proofs.lemmas.List.{drop_more}
 use Rattle.walter_rules.specs.declared.entry.Entry.{Entry}
-use Rattle.walter_report.specs.declared.parts.Part.{Part}
 use Rattle.walter_report.specs.Sites.{site_line, site_lines}
 use Rattle.walter_report.specs.Summaries.{count_line, count_lines}
-use Rattle.walter_report.specs.Parts.{part_text, parts_behind, parts_text}
-
-parts_flat : (text : List ℕ) (parts : List Part) → parts_behind text parts ≡ text ++ flat_map part_text parts
-parts_flat text [] = sym (append-nil text)
-parts_flat text (part ∷ parts) =
-    parts_flat (text ++ part_text part) parts ∙ append_assoc text (part_text part) (flat_map part_text parts)
-
-pub parts_text-flat : (parts : List Part) → parts_text parts ≡ flat_map part_text parts
-parts_text-flat [] = refl
-parts_text-flat (part ∷ parts) = parts_flat (part_text part) parts
 
 -- the line of a site, and those of the sites behind it
 pub site_next : (sites : ℕ) (trails : List (List Entry)) (k : ℕ) (trail here : List Entry) (n : ℕ)

@@ -5,9 +5,9 @@ use Rattle.std.proofs.lemmas.List.Concat.{flat_map-append}
 use Rattle.walter_base.specs.declared.message.Record.{Record}
 use Rattle.walter_base.specs.declared.names.SiteId.{SiteId}
 use Rattle.walter_report.specs.Sites.{logged, log_pieces, record_in, records}
-use Rattle.walter_report.specs.Lists.{has_pieces, list_behind}
-use Rattle.walter_report.proofs.Joined.{list_behind-append}
-use Rattle.walter_report.proofs.Tallied.{flat_map-drop_more}
+use Rattle.walter_page.specs.Lists.{has_pieces, list_behind}
+use Rattle.walter_page.proofs.Joined.{list_behind-append}
+use Rattle.walter_page.proofs.Parted.{flat_map-drop_more}
 use Rattle.walter_rules.specs.declared.entry.Entry.{Entry}
 
 pub length_log_pieces : (i : SiteId) (recs : List Record) (rec : Record)

@@ -1,6 +1,4 @@
-pub mod Words
 pub mod Adding
-pub mod Lists
 pub mod Sites
 pub mod Reports
 pub mod Answered
@@ -8,5 +6,3 @@ pub mod Overviews
 pub mod Traces
 pub mod Summaries
 pub mod Texts
-pub mod Pages
-pub mod Parts

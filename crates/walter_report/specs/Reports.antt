@@ -14,7 +14,7 @@ use Rattle.walter_rules.specs.declared.outcome.Outcome.TheVariants.{Replied}
 use Rattle.walter_scenario.specs.declared.scenario.Client.{Client}
 use Rattle.walter_scenario.specs.declared.scenario.Scenario.{Scenario}
 use Rattle.walter_report.specs.Sites.{site_lines}
-use Rattle.walter_report.specs.Words.{line_feed, or_dash}
+use Rattle.walter_page.specs.Words.{line_feed, or_dash}
 
 -- the reply in an outcome, and the one in an entry to a client
 abbrev pub reply_in : Outcome → List Reply

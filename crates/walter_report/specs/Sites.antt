@@ -10,7 +10,7 @@ use Rattle.walter_rules.specs.declared.entry.Entry.{Entry}
 use Rattle.walter_rules.specs.Knowledge.{site_at}
 use Rattle.walter_rules.specs.Learning.{epoch_after}
 use Rattle.walter_rules.specs.Standing.{up_after}
-use Rattle.walter_report.specs.Words.{line_feed, listed}
+use Rattle.walter_page.specs.Words.{line_feed, listed}
 
 -- whether a site is up behind these entries, the oldest of which comes first, where it was up before or not
 abbrev pub up_from : Bool → List Entry → Bool

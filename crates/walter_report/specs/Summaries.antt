@@ -12,7 +12,7 @@ use Rattle.walter_rules.specs.declared.outcome.Outcome.{Outcome}
 use Rattle.walter_rules.specs.Knowledge.{site_at}
 use Rattle.walter_report.specs.Reports.{reply_in}
 use Rattle.walter_report.specs.Sites.{records, log_pieces, events_part}
-use Rattle.walter_report.specs.Words.{line_feed}
+use Rattle.walter_page.specs.Words.{line_feed}
 
 -- the reply in an entry, where a client called
 abbrev pub call_reply : Event → Outcome → List Reply

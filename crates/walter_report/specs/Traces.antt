@@ -26,7 +26,7 @@ use Rattle.walter_rules.specs.Merges.{Named, merge}
 use Rattle.walter_rules.specs.Records.{IsRecordAmong}
 use Rattle.walter_rules.specs.Sending.{Send}
 use Rattle.walter_report.specs.Reports.{reply_frame}
-use Rattle.walter_report.specs.Words.{line_feed, listed}
+use Rattle.walter_page.specs.Words.{line_feed, listed}
 
 -- the format in force behind what came of an event: a record that was kept comes first, and then one that was written
 abbrev pub format_after : Came → Format → Format

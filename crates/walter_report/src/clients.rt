@@ -3,16 +3,14 @@ ghost use Rattle.std.specs.Prelude.{◌≤◌, length, flat_map, All};
 ghost use Rattle.hex.specs.Hex.{encode_lower};
 ghost use Rattle.walter_reply.specs.Replies.{FitsFrame};
 ghost use Rattle.walter_report.specs.Answered.{answered_lines};
-ghost use Rattle.walter_report.specs.Pages.{Puts};
+ghost use Rattle.walter_page.specs.Pages.{Puts};
 ghost use Rattle.walter_report.specs.Reports.{reply_frame, client_line};
-ghost use Rattle.walter_report.specs.Words.{or_dash};
+ghost use Rattle.walter_page.specs.Words.{or_dash};
 
 use crate::frame::Frame;
-use crate::hexing::put_hex;
-use crate::page::Page;
-use crate::parts::{Part, put_parts};
 use crate::replies::Replies;
 use walter_base::Reply;
+use walter_page::{Page, Part, put_hex, put_parts};
 use walter_scenario::Client;
 use walter_stream::{Failed, Sink};
 

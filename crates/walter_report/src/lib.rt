@@ -3,15 +3,10 @@
 
 mod clients;
 mod columns;
-mod fault;
 mod frame;
-mod hexing;
 mod laws;
-mod lists;
 mod logs;
 mod overview;
-mod page;
-mod parts;
 mod replies;
 mod sites;
 mod summaries;
@@ -19,7 +14,6 @@ mod text;
 mod told;
 mod traces;
 
-pub use fault::WriteFault;
 pub use laws::as_it_stands;
 pub use summaries::write_summary;
 pub use text::write_report;

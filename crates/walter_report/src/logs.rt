@@ -1,15 +1,13 @@
 //! The log of a site: the commits that stand there, in order.
 ghost use Rattle.std.specs.Prelude.{◌≡◌, ◌++◌, [], ◌∷◌, true, length, codes, OnOk};
-ghost use Rattle.walter_report.specs.Lists.{has_pieces, list_behind};
-ghost use Rattle.walter_report.specs.Pages.{Puts};
+ghost use Rattle.walter_page.specs.Lists.{has_pieces, list_behind};
+ghost use Rattle.walter_page.specs.Pages.{Puts};
 ghost use Rattle.walter_report.specs.Sites.{record_in, records, logged, log_pieces, version_text};
-ghost use Rattle.walter_report.specs.Words.{listed};
+ghost use Rattle.walter_page.specs.Words.{listed};
 ghost use Rattle.walter_rules.specs.Knowledge.{site_at};
 
-use crate::lists::comma_behind;
-use crate::page::Page;
-use crate::parts::{Part, put_parts};
 use walter_base::{MaybeRecord, Record};
+use walter_page::{Page, Part, comma_behind, put_parts};
 use walter_rules::Entry;
 use walter_stream::{Failed, Sink};
 

@@ -1,15 +1,13 @@
 //! The lines of the sites.
 ghost use Rattle.std.specs.Prelude.{length};
 ghost use Rattle.walter_report.specs.Overviews.{Tells, TellEach};
-ghost use Rattle.walter_report.specs.Pages.{Puts};
+ghost use Rattle.walter_page.specs.Pages.{Puts};
 ghost use Rattle.walter_report.specs.Sites.{records, is_up, events_part, commits_part, site_line, site_lines};
 ghost use Rattle.walter_rules.specs.Knowledge.{site_at};
 
-use crate::lists::put_counts;
 use crate::logs::put_log;
 use crate::overview::Overview;
-use crate::page::Page;
-use crate::parts::{Part, put_parts};
+use walter_page::{Page, Part, put_counts, put_parts};
 use walter_rules::Entry;
 use walter_stream::{Failed, Sink};
 use walter_trail::Trail;

@@ -1,21 +1,19 @@
 //! The summary of a load.
 ghost use Rattle.std.specs.Prelude.{◌≡◌, length, OnOk, IfErr};
 ghost use Rattle.walter_report.specs.Overviews.{Tells, TellEach};
-ghost use Rattle.walter_report.specs.Pages.{Puts};
+ghost use Rattle.walter_page.specs.Pages.{Puts};
 ghost use Rattle.walter_report.specs.Sites.{is_up, records};
 ghost use Rattle.walter_report.specs.Summaries.{all_replies, load_line, columns_part, replies_line, count_line, count_lines, summary_text};
-ghost use Rattle.walter_report.specs.Texts.{IsUnwritten};
+ghost use Rattle.walter_page.specs.Unwritten.{IsUnwritten};
 ghost use Rattle.walter_rules.specs.Knowledge.{site_at};
 ghost use Rattle.walter_stream.specs.Streams.{Appends};
 
 use crate::columns::{COLUMNS, count_replies};
-use crate::fault::WriteFault;
 use crate::overview::Overview;
-use crate::page::Page;
-use crate::parts::{Part, put_parts};
 use crate::sites::put_events;
 use crate::told::overviews_of;
 use std::alloc::Global;
+use walter_page::{Page, Part, WriteFault, put_parts};
 use walter_rules::Entry;
 use walter_stream::{Failed, Sink};
 use walter_trail::Trail;

@@ -1,18 +1,16 @@
 //! The trace: a line for each entry.
 ghost use Rattle.std.specs.Prelude.{◌≡◌, ◌<◌, ◌≤◌, ◌++◌, ◌∷◌, [], length, codes, All, IfSome};
 ghost use Rattle.walter_reply.specs.Replies.{FitsFrame};
-ghost use Rattle.walter_report.specs.Lists.{list_behind};
-ghost use Rattle.walter_report.specs.Pages.{Puts};
+ghost use Rattle.walter_page.specs.Lists.{list_behind};
+ghost use Rattle.walter_page.specs.Pages.{Puts};
 ghost use Rattle.walter_report.specs.Reports.{reply_in};
 ghost use Rattle.walter_base.specs.Sizes.{most_in};
 ghost use Rattle.walter_rules.specs.Learning.{format_after as behind};
 ghost use Rattle.walter_report.specs.Traces.{HasSpellings, IsSpelledIn, AreSpelledIn, call_word, packet_word, input_text, event_text, outcome_text, record_text, send_text, sends_text, happened_part, records_part, sends_part, trace_line, trace_lines, format_after};
 
 use crate::frame::Frame;
-use crate::lists::comma_behind;
-use crate::page::Page;
-use crate::parts::{Part, put_parts};
 use walter_base::{Call, Format, MaybeRecord, Packet, Record, Request, SiteId};
+use walter_page::{Page, Part, comma_behind, put_parts};
 use walter_rules::{Came, Entry, Event, Input, Outcome};
 use walter_stream::{Failed, Sink};
 

@@ -6,7 +6,7 @@
 //! | `report SCENARIO`, `trace SCENARIO` | what `play`, or `play --trace`, writes of it; that its history is legal; and that its events come to the same at sites without disks |
 //! | `brief SCENARIO` | the last three lines of what `play` writes of it, each without its middle where it is long |
 //! | `ends GIVEN.. SCENARIO` | how `play` ends over sources, sinks, racks and disks that are given: see `ending` |
-//! | `runs GIVEN.. SCENARIO` | the same of `run` |
+//! | `runs GIVEN.. SCENARIO`, `audits GIVEN.. SCENARIO` | the same of `run`, and of `audit` |
 //! | `called WORDS..` | how the program ends that is called with these words, where nothing can be read |
 //! | `read SCENARIO`, `bytes HEX` | the scenario that the text or the bytes spell, or what is wrong with them |
 //! | `memory` | what is said where memory runs out |
@@ -108,6 +108,7 @@ fn answer(
         "brief" => play_in_brief(rt, rest),
         "ends" => end_line(rt, "play", rest),
         "runs" => end_line(rt, "run", rest),
+        "audits" => end_line(rt, "audit", rest),
         "called" => end(rt, rest, "", ""),
         "read" => Ok(reading(alloc, rest.as_bytes())?),
         "bytes" => Ok(reading(alloc, &hex::decode(alloc, rest)?)?),

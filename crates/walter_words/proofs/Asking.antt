@@ -1,4 +1,4 @@
--- The words ask for a run where clap takes them, and only there.
+-- The words ask for a run or an audit where clap takes them, and only there.
 use Rattle.std.proofs.Common.{◌≡◌, ◌⊎◌, ◌∙◌, ◌==◌, ◌<◌, ◌≤◌, ◌^◌, ℕ, Bool, true, false, List, [], ◌∷◌, Option, Some, None, codes, refl, sym, ap, inl, inr, subst, arith, Result, Ok, Err}
 use Rattle.std.specs.Str.Parse.{IsNumeral, ParsesUnsigned, digits_value, without_leading_plus}
 use Rattle.std.proofs.lemmas.Bool.{eqb-true}
@@ -14,11 +14,12 @@ use Rattle.clap.specs.Kinds.{IsAmong, Kinds}
 use Rattle.clap.specs.Faults.{fault_of, is_simple_and_free, level_fault}
 use Rattle.clap.proofs.OnLiterals.{clap_on_literals}
 use Rattle.walter_words.specs.declared.asked.Command.{Command}
-use Rattle.walter_words.specs.declared.asked.Command.TheVariants.{Play, Run, Load, Say}
+use Rattle.walter_words.specs.declared.asked.Command.TheVariants.{Play, Run, Load, Audit, Say}
 use Rattle.walter_words.specs.Lines.{walter_line}
-use Rattle.walter_words.specs.Words.{AsksFor, AsksForText, FollowsFrom, IsEntered, IsGiven, IsLoad, IsReadAs, IsRunLine, IsSaid, IsText, IsTextKind, IsTold, NamesFolder, SpellsNumber, folder_of}
-use Rattle.walter_words.proofs.Levels.{driven_level, first_word, load_fault, load_rows, play_fault, play_rows, run_fault, run_rows}
+use Rattle.walter_words.specs.Words.{AsksFor, AsksForText, FollowsFrom, IsAuditLine, IsEntered, IsGiven, IsLoad, IsReadAs, IsRunLine, IsSaid, IsText, IsTextKind, IsTold, NamesFolder, SpellsNumber, folder_of}
+use Rattle.walter_words.proofs.Levels.{audit_fault, audit_rows, driven_level, first_word, load_fault, load_rows, play_fault, play_rows, run_fault, run_rows}
 use Rattle.walter_words.proofs.Drives.{behind_name, options_pass}
+use Rattle.walter_words.proofs.Audits.{behind_audit, folder_passes}
 use Rattle.walter_words.proofs.Loads.{IsNoFlag, TwoOptions, behind_load, load_passes, row}
 
 -- a number is no flag
@@ -89,13 +90,27 @@ load_takes seed calls words (s, c, options, rest, is, options_are, over, wrote, 
     ] in
     subst (λ w. (fault_of walter_line w ≡ []) × IsReadAs (subcommand_of walter_line w) (Load seed calls)) (sym is) done
 
--- ---- all three
+-- ---- audit
 
--- clap takes the words that ask for a run, and its matches are read as that run
+audit_takes : (disks : Option Text) (words : List Text) → IsAuditLine disks words → (fault_of walter_line words ≡ []) × IsReadAs (subcommand_of walter_line words) (Audit disks)
+audit_takes disks words (options, rest, is, named, over) =
+    let takes = folder_passes disks options rest named over in
+    subst (λ w. (fault_of walter_line w ≡ []) × IsReadAs (subcommand_of walter_line w) (Audit disks)) (sym is)
+    (audit_fault options ∙ takes.0, (_, audit_rows options, takes.1))
+
+audit_asked : (words rest : List Text) → words ≡ codes "audit" ∷ rest → fault_of walter_line words ≡ [] → (disks : Option Text) × IsAuditLine disks words
+audit_asked words rest is e =
+    let taken = behind_audit rest (sym (audit_fault rest) ∙ subst (λ w. fault_of walter_line w ≡ []) is e) in
+    (taken.0, (rest, taken.1, is, taken.2, taken.3))
+
+-- ---- all four
+
+-- clap takes the words that ask for a run or an audit, and its matches are read as that
 pub taken : (command : Command) (words : List Text) → AsksFor command words → (fault_of walter_line words ≡ []) × IsReadAs (subcommand_of walter_line words) command
 taken (Play trace disks) words asks = run_line_takes (codes "play") trace disks words play_entered asks
 taken (Run trace disks) words asks = run_line_takes (codes "run") trace disks words run_entered asks
 taken (Load seed calls) words asks = load_takes seed calls words asks
+taken (Audit disks) words asks = audit_takes disks words asks
 taken (Say text) words asks = absurd asks
 
 -- and it takes no others
@@ -109,9 +124,12 @@ asked words e =
       | inr (inl run) ↦
           let command = run_line_only (codes "run") words first.0 run_entered run e in
           (Run command.0 command.1, command.2)
-      | inr (inr load) ↦
+      | inr (inr (inl load)) ↦
           let command = load_asked first.0 (behind_load first.0 (sym (load_fault first.0) ∙ subst (λ w. fault_of walter_line w ≡ []) load e)) in
           (Load command.0 command.1, subst (IsLoad command.0 command.1) (sym load) command.2)
+      | inr (inr (inr audit)) ↦
+          let command = audit_asked words first.0 audit e in
+          (Audit command.0, command.1)
     ]
 
 -- ---- answers
@@ -124,7 +142,7 @@ pub is_simple_line : is_simple walter_line ≡ true
 unfolding clap_on_literals
 is_simple_line = refl
 
--- where nothing fails the run that is read is one that the words ask for
+-- where nothing fails the command that is read is one that the words ask for
 pub read_back : (words : List Text) (entered : Option (Text × List Row)) (result : Option Command) → fault_of walter_line words ≡ []
     → entered ≡ subcommand_of walter_line words → ((command : Command) → IsReadAs entered command → result ≡ Some command)
     → (command : Command) × AsksFor command words × (result ≡ Some command)
@@ -136,6 +154,7 @@ pub command_follows : (command : Command) (words : List Text) (kinds : Kinds) �
 command_follows (Play trace disks) words kinds asks e = e
 command_follows (Run trace disks) words kinds asks e = e
 command_follows (Load seed calls) words kinds asks e = e
+command_follows (Audit disks) words kinds asks e = e
 command_follows (Say text) words kinds asks e = absurd asks
 
 pub text_kinds : (words : List Text) → AsksForText words → (kind : ErrorKind) × IsTextKind kind × (fault_of walter_line words ≡ kind ∷ [])
@@ -144,7 +163,8 @@ text_kinds words (inl is) = (DisplayHelp, inl refl, ap (λ w. fault_of walter_li
 text_kinds words (inr (inl is)) = (DisplayHelp, inl refl, ap (λ w. fault_of walter_line w) is)
 text_kinds words (inr (inr (inl is))) = (DisplayHelp, inl refl, ap (λ w. fault_of walter_line w) is)
 text_kinds words (inr (inr (inr (inl is)))) = (DisplayHelp, inl refl, ap (λ w. fault_of walter_line w) is)
-text_kinds words (inr (inr (inr (inr is)))) = (DisplayVersion, inr refl, ap (λ w. fault_of walter_line w) is)
+text_kinds words (inr (inr (inr (inr (inl is))))) = (DisplayHelp, inl refl, ap (λ w. fault_of walter_line w) is)
+text_kinds words (inr (inr (inr (inr (inr is))))) = (DisplayVersion, inr refl, ap (λ w. fault_of walter_line w) is)
 
 not_text : IsTextKind OutOfMemory → ⊥
 not_text (inl e) = cc
@@ -177,6 +197,7 @@ pub told_follows : (kinds : Kinds) (kind : ErrorKind) (r : Result Command WordsF
 told_follows kinds kind (Ok (Play trace disks)) has told = absurd told.0
 told_follows kinds kind (Ok (Run trace disks)) has told = absurd told.0
 told_follows kinds kind (Ok (Load seed calls)) has told = absurd told.0
+told_follows kinds kind (Ok (Audit disks)) has told = absurd told.0
 told_follows kinds kind (Ok (Say text)) (inl is) told = absurd (not_text (subst IsTextKind is told.1))
 told_follows kinds kind (Ok (Say text)) (inr among) told = elim told.1 [
   | inl help ↦ inl (subst (λ k. IsAmong k kinds) help among)
@@ -186,7 +207,7 @@ told_follows kinds kind (Err Memory) has told = tt
 told_follows kinds kind (Err (Usage text)) (inl is) told = absurd (told.1 is)
 told_follows kinds kind (Err (Usage text)) (inr among) told = (kind, among, told.0)
 
--- the folder of the one run that the words ask for is the one that they name
+-- the folder of the one command that the words ask for is the one that they name
 pub names : (command : Command) (words : List Text) → AsksFor command words ⊎ IsText command
     → ((other : Command) → AsksFor other words → command ≡ other) → NamesFolder (folder_of command) words
 names (Play trace None) words asks only = λ other line. ap folder_of (sym (only other line))
@@ -200,6 +221,11 @@ names (Run trace (Some folder)) words asks only = elim asks [
   | inr text ↦ absurd text
 ]
 names (Load seed calls) words asks only = λ other line. ap folder_of (sym (only other line))
+names (Audit None) words asks only = λ other line. ap folder_of (sym (only other line))
+names (Audit (Some folder)) words asks only = elim asks [
+  | inl line ↦ (Audit (Some folder), line, refl)
+  | inr text ↦ absurd text
+]
 names (Say text) words asks only = λ other line. ap folder_of (sym (only other line))
 
 -- a number that fits is read

@@ -80,7 +80,7 @@ accepted v e = go (accepts false NonEmptyString v) refl
     go false is = let bad : refused_kind NonEmptyString ∷ [] ≡ [] = rw is at e in cc
 
 -- a folder that is taken isn't empty
-is_named : (v : Text) (rows : List Row) → use_fault false (option_of (Some v)) (v ∷ []) rows ≡ [] → 0 < length v
+pub is_named : (v : Text) (rows : List Row) → use_fault false (option_of (Some v)) (v ∷ []) rows ≡ [] → 0 < length v
 is_named v rows e =
     accepts-Accepts false NonEmptyString v (accepted v
     (both_empty (value_kinds false NonEmptyString v) [] (both_empty (repeat_fault false (codes "disks") rows) (or_else (value_kinds false NonEmptyString v) []) e).1).0)

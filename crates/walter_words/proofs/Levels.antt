@@ -8,7 +8,7 @@ use Rattle.clap.specs.declared.error.kind.ErrorKind.TheVariants.{DisplayHelp, Di
 use Rattle.clap.specs.Kinds.{Kinds, or_else}
 use Rattle.clap.specs.Faults.{check_fault, defaults_fault, entered_fault, fault_of, level_fault, long_fault, react_fault, settle_fault, walk_fault}
 use Rattle.clap.proofs.OnLiterals.{clap_on_literals}
-use Rattle.walter_words.specs.Lines.{driven_line, load_line, walter_line}
+use Rattle.walter_words.specs.Lines.{audit_line, driven_line, load_line, walter_line}
 use Rattle.walter_words.proofs.Longs.{same_some}
 use Rattle.walter_words.proofs.Turns.{both_empty, hyphens, idle_turn, one_word}
 
@@ -21,6 +21,9 @@ driven_level command = built_leaf (inherited above (driven_line command).top)
 
 abbrev pub load_level : Shape
 load_level = built_leaf (inherited above load_line.top)
+
+abbrev pub audit_level : Shape
+audit_level = built_leaf (inherited above audit_line.top)
 
 abbrev pub top_level : Shape
 top_level = (built walter_line).top
@@ -73,6 +76,13 @@ load_fault rest =
     ∙ (ap (λ x. or_else x (or_else (level_fault load_level [] nothing_held rest false []) [])) (no_fault_past top_level top_names (walk_from nothing_held) (codes "load") [] rest)
     ∙ or_else_none _)
 
+pub audit_fault : (rest : List Text) → fault_of walter_line (codes "audit" ∷ rest) ≡ level_fault audit_level [] nothing_held rest false []
+unfolding clap_on_literals
+audit_fault rest =
+    ap (ends_by (codes "audit" ∷ rest)) (gathers top_level.rules top_names (walk_from nothing_held) (codes "audit") [] rest)
+    ∙ (ap (λ x. or_else x (or_else (level_fault audit_level [] nothing_held rest false []) [])) (no_fault_past top_level top_names (walk_from nothing_held) (codes "audit") [] rest)
+    ∙ or_else_none _)
+
 pub play_rows : (rest : List Text) → subcommand_of walter_line (codes "play" ∷ rest) ≡ Some (codes "play", rows_after (driven_level (codes "play")).rules [] rest)
 unfolding clap_on_literals
 play_rows rest = ap (λ (w : Walk). entered (built walter_line) w.stopped) (gathers top_level.rules top_names (walk_from nothing_held) (codes "play") [] rest)
@@ -84,6 +94,10 @@ run_rows rest = ap (λ (w : Walk). entered (built walter_line) w.stopped) (gathe
 pub load_rows : (rest : List Text) → subcommand_of walter_line (codes "load" ∷ rest) ≡ Some (codes "load", rows_after load_level.rules [] rest)
 unfolding clap_on_literals
 load_rows rest = ap (λ (w : Walk). entered (built walter_line) w.stopped) (gathers top_level.rules top_names (walk_from nothing_held) (codes "load") [] rest)
+
+pub audit_rows : (rest : List Text) → subcommand_of walter_line (codes "audit" ∷ rest) ≡ Some (codes "audit", rows_after audit_level.rules [] rest)
+unfolding clap_on_literals
+audit_rows rest = ap (λ (w : Walk). entered (built walter_line) w.stopped) (gathers top_level.rules top_names (walk_from nothing_held) (codes "audit") [] rest)
 
 pub no_words : fault_of walter_line [] ≡ [] → ⊥
 unfolding clap_on_literals
@@ -156,9 +170,10 @@ no_command word rest none e =
       | inr read ↦ request_fails top_level read.1 read.0.1 nothing_held (top_flags read.0.0 read.1 read.3) read.4
     ]
 
--- what runs has one of the three commands first
+-- what passes has one of the four commands first
 abbrev pub IsCommandFirst : List Text → Type 0
-IsCommandFirst words = (rest : List Text) × ((words ≡ codes "play" ∷ rest) ⊎ (words ≡ codes "run" ∷ rest) ⊎ (words ≡ codes "load" ∷ rest))
+IsCommandFirst words = (rest : List Text) × ((words ≡ codes "play" ∷ rest) ⊎ (words ≡ codes "run" ∷ rest) ⊎ (words ≡ codes "load" ∷ rest)
+    ⊎ (words ≡ codes "audit" ∷ rest))
 
 pub first_word : (words : List Text) → fault_of walter_line words ≡ [] → IsCommandFirst words
 first_word [] e = absurd (no_words e)
@@ -167,14 +182,19 @@ first_word (word ∷ rest) e = go (bytes_eq (codes "play") word) refl
     is_word : (name : Text) → bytes_eq name word ≡ true → word ∷ rest ≡ name ∷ rest
     is_word name is = ap (λ w. w ∷ rest) (sym ((bytes_eq-Decides _ _).0 is))
 
+    fifth : (b : Bool) → bytes_eq (codes "play") word ≡ false → bytes_eq (codes "run") word ≡ false → bytes_eq (codes "load") word ≡ false
+        → bytes_eq (codes "audit") word ≡ false → bytes_eq (codes "help") word ≡ b → IsCommandFirst (word ∷ rest)
+    fifth true first second third fourth is = absurd (help_first rest (subst (λ w. fault_of walter_line w ≡ []) (is_word (codes "help") is) e))
+    fifth false first second third fourth is = absurd (no_command word rest (rw (first, second, third, fourth, is) refl) e)
+
     fourth : (b : Bool) → bytes_eq (codes "play") word ≡ false → bytes_eq (codes "run") word ≡ false → bytes_eq (codes "load") word ≡ false
-        → bytes_eq (codes "help") word ≡ b → IsCommandFirst (word ∷ rest)
-    fourth true first second third is = absurd (help_first rest (subst (λ w. fault_of walter_line w ≡ []) (is_word (codes "help") is) e))
-    fourth false first second third is = absurd (no_command word rest (rw (first, second, third, is) refl) e)
+        → bytes_eq (codes "audit") word ≡ b → IsCommandFirst (word ∷ rest)
+    fourth true first second third is = (rest, inr (inr (inr (is_word (codes "audit") is))))
+    fourth false first second third is = fifth (bytes_eq (codes "help") word) first second third is refl
 
     third : (b : Bool) → bytes_eq (codes "play") word ≡ false → bytes_eq (codes "run") word ≡ false → bytes_eq (codes "load") word ≡ b → IsCommandFirst (word ∷ rest)
-    third true first second is = (rest, inr (inr (is_word (codes "load") is)))
-    third false first second is = fourth (bytes_eq (codes "help") word) first second is refl
+    third true first second is = (rest, inr (inr (inl (is_word (codes "load") is))))
+    third false first second is = fourth (bytes_eq (codes "audit") word) first second is refl
 
     second : (b : Bool) → bytes_eq (codes "play") word ≡ false → bytes_eq (codes "run") word ≡ b → IsCommandFirst (word ∷ rest)
     second true first is = (rest, inr (inl (is_word (codes "run") is)))

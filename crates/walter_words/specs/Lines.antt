@@ -33,7 +33,8 @@ calls_rule = record (new_rule (codes "calls")) {
   parser = Some (Unsigned 0 20000);
 }
 
--- `play` and `run` take `--trace`, and `--disks` with a folder; `load` takes `--seed` and `--calls` with a number each
+-- `play` and `run` take `--trace`, and `--disks` with a folder; `load` takes `--seed` and `--calls` with a number each;
+-- `audit` takes `--disks` alone
 abbrev pub driven_line : Text → App
 driven_line name = with_rule (with_rule (new_app name) trace_rule) disks_rule
 
@@ -46,6 +47,9 @@ run_line = driven_line (codes "run")
 abbrev pub load_line : App
 load_line = with_rule (with_rule (new_app (codes "load")) seed_rule) calls_rule
 
+abbrev pub audit_line : App
+audit_line = with_rule (new_app (codes "audit")) disks_rule
+
 abbrev pub bare_line : App
 bare_line = record (new_app (codes "walter")) {
   top = record (new_app (codes "walter")).top {
@@ -55,6 +59,7 @@ bare_line = record (new_app (codes "walter")) {
   };
 }
 
--- the program takes one of the three
+-- the program takes one of the four
 abbrev pub walter_line : App
-walter_line = with_subcommand (with_subcommand (with_subcommand bare_line play_line.top) run_line.top) load_line.top
+walter_line = with_subcommand (with_subcommand (with_subcommand (with_subcommand bare_line play_line.top) run_line.top)
+    load_line.top) audit_line.top

@@ -12,7 +12,7 @@ use Rattle.clap.specs.declared.error.kind.ErrorKind.TheVariants.{DisplayHelp, Di
 use Rattle.walter_words.specs.declared.asked.WordsFault.{WordsFault}
 use Rattle.walter_words.specs.declared.asked.WordsFault.TheVariants.{Usage, Memory}
 use Rattle.walter_words.specs.declared.asked.Command.{Command}
-use Rattle.walter_words.specs.declared.asked.Command.TheVariants.{Play, Run, Load, Say}
+use Rattle.walter_words.specs.declared.asked.Command.TheVariants.{Play, Run, Load, Audit, Say}
 
 -- the text is decimal digits, behind a plus or not, that write the number
 abbrev pub SpellsNumber : Text → ℕ → Type 0
@@ -68,25 +68,32 @@ IsLoad seed calls words = (s : Text) × (c : Text) × (options : List Text) × (
     × (words ≡ codes "load" ∷ options) × AreOptions s c options rest × IsEnd rest
     × SpellsNumber s seed × SpellsNumber c calls × (seed < 2 ^ 64) × (calls ≤ 20000)
 
--- the words ask for a run, and for just this one
+-- `audit`, and behind it `--disks DIR`, where a folder is named
+abbrev pub IsAuditLine : Option Text → List Text → Type 0
+IsAuditLine disks words = (options : List Text) × (rest : List Text)
+    × (words ≡ codes "audit" ∷ options) × HasDisks disks options rest × IsEnd rest
+
+-- the words ask for a run or an audit, and for just this one
 abbrev pub AsksFor : Command → List Text → Type 0
 AsksFor (Play trace disks) words = IsRunLine (codes "play") trace disks words
 AsksFor (Run trace disks) words = IsRunLine (codes "run") trace disks words
 AsksFor (Load seed calls) words = IsLoad seed calls words
+AsksFor (Audit disks) words = IsAuditLine disks words
 AsksFor (Say text) words = ⊥
 
 abbrev pub IsText : Command → Type 0
 IsText (Say text) = ⊤
 IsText _ = ⊥
 
--- the folder that a run's disks are to be in, where one is named
+-- the folder that the disks are to be in, where one is named
 abbrev pub folder_of : Command → Option Text
 folder_of (Play trace disks) = disks
 folder_of (Run trace disks) = disks
 folder_of (Load seed calls) = None
+folder_of (Audit disks) = disks
 folder_of (Say text) = None
 
--- the words ask for a run over the files of this folder, or for none over files
+-- the words ask for a run or an audit over the files of this folder, or for none over files
 abbrev pub NamesFolder : Option Text → List Text → Type 0
 NamesFolder (Some folder) words =
     (command : Command) × AsksFor command words × (folder_of command ≡ Some folder)
@@ -101,7 +108,7 @@ HasOptions trace disks rows = (one_of (codes "trace") rows ≡ Some (if trace th
 abbrev pub IsEntered : Text → Bool → Option Text → Option (Text × List Row) → Type 0
 IsEntered name trace disks entered = (rows : List Row) × (entered ≡ Some (name, rows)) × HasOptions trace disks rows
 
--- what a run's command is read from, in the matches of the command that was entered
+-- what a command is read from, in the matches of the one that was entered
 abbrev pub IsReadAs : Option (Text × List Row) → Command → Type 0
 IsReadAs entered (Play trace disks) = IsEntered (codes "play") trace disks entered
 IsReadAs entered (Run trace disks) = IsEntered (codes "run") trace disks entered
@@ -109,9 +116,11 @@ IsReadAs entered (Load seed calls) = (rows : List Row) × (s : Text) × (c : Tex
     × (entered ≡ Some (codes "load", rows))
     × (one_of (codes "seed") rows ≡ Some s) × (one_of (codes "calls") rows ≡ Some c)
     × SpellsNumber s seed × SpellsNumber c calls × (seed < 2 ^ 64) × (calls ≤ 20000)
+IsReadAs entered (Audit disks) = (rows : List Row)
+    × (entered ≡ Some (codes "audit", rows)) × (first_of (codes "disks") rows ≡ disks)
 IsReadAs entered (Say text) = ⊥
 
--- the answer is this run, unless memory is wanting
+-- the answer is this command, unless memory is wanting
 abbrev pub IsGiven : Command → Result Command WordsFault → Type 0
 IsGiven command result = MatchResult result (λ given. given ≡ command) (λ fault. fault ≡ Memory)
 
@@ -123,7 +132,7 @@ IsSaid result = MatchResult result IsText (λ fault. fault ≡ Memory)
 abbrev pub AsksForText : List Text → Type 0
 AsksForText words = (words ≡ codes "--help" ∷ []) ⊎ (words ≡ codes "play" ∷ codes "--help" ∷ [])
     ⊎ (words ≡ codes "run" ∷ codes "--help" ∷ []) ⊎ (words ≡ codes "load" ∷ codes "--help" ∷ [])
-    ⊎ (words ≡ codes "--version" ∷ [])
+    ⊎ (words ≡ codes "audit" ∷ codes "--help" ∷ []) ⊎ (words ≡ codes "--version" ∷ [])
 
 abbrev pub IsTextKind : ErrorKind → Type 0
 IsTextKind kind = (kind ≡ DisplayHelp) ⊎ (kind ≡ DisplayVersion)
@@ -134,12 +143,13 @@ IsTold kind (Ok command) = IsText command × IsTextKind kind
 IsTold kind (Err (Usage text)) = ¬ IsTextKind kind × (kind ≢ OutOfMemory)
 IsTold kind (Err Memory) = ⊤
 
--- a run comes where no kind of error does, a text where help or the version is to be shown, and Usage where
+-- a run or an audit comes where no kind of error does, a text where help or the version is to be shown, and Usage where
 -- another kind comes
 abbrev pub FollowsFrom : Kinds → Result Command WordsFault → Type 0
 FollowsFrom kinds (Ok (Say text)) = IsAmong DisplayHelp kinds ⊎ IsAmong DisplayVersion kinds
 FollowsFrom kinds (Ok (Play trace disks)) = kinds ≡ []
 FollowsFrom kinds (Ok (Run trace disks)) = kinds ≡ []
 FollowsFrom kinds (Ok (Load seed calls)) = kinds ≡ []
+FollowsFrom kinds (Ok (Audit disks)) = kinds ≡ []
 FollowsFrom kinds (Err (Usage text)) = (kind : ErrorKind) × IsAmong kind kinds × (¬ IsTextKind kind)
 FollowsFrom kinds (Err Memory) = ⊤

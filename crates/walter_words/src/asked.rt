@@ -39,6 +39,11 @@ pub enum Command {
         /// How many calls the clients make.
         calls: u32,
     },
+    /// To audit the journals of the sites of the scenario on standard input.
+    Audit {
+        /// The folder that has the disks of the sites, if they aren't in memory.
+        disks: Option<FolderPath>,
+    },
     /// To write this text, of a help or of the version, to standard output.
     Say(String),
 }
@@ -51,7 +56,9 @@ impl Command {
         ensures { result ≡ folder_of self }
     {
         match self {
-            Command::Play { disks, .. } | Command::Run { disks, .. } => disks,
+            Command::Play { disks, .. } | Command::Run { disks, .. } | Command::Audit { disks } => {
+                disks
+            }
             Command::Load { .. } | Command::Say(_) => None,
         }
     }
@@ -74,7 +81,7 @@ fn is_traced(matches: &ArgMatches<'_>) -> bool
     matches.get_flag("trace")
 }
 
-/// The folder that these matches, of `play` or of `run`, have behind `--disks`.
+/// The folder that these matches, of `play`, of `run` or of `audit`, have behind `--disks`.
 fn disks_in(alloc: Global, matches: &ArgMatches<'_>) -> Result<Option<FolderPath>, AllocError>
     ensures { IfOk result (λ disks. disks ≡ first_of (codes "disks") (rows_of (found_of matches.now))) }
 {
@@ -122,7 +129,17 @@ fn load_of(load: &ArgMatches<'_>) -> Option<Command>
     })
 }
 
-/// The command in these matches, if it is `play`, `run` or `load`.
+/// The command `audit` with these matches.
+fn audit_of(alloc: Global, audit: &ArgMatches<'_>) -> Result<Command, AllocError>
+    ensures { (disks : Option (List ℕ)) → first_of (codes "disks") (rows_of (found_of audit.now)) ≡ disks
+        → IfOk result (λ command. command ≡ Command.Audit disks) }
+{
+    Ok(Command::Audit {
+        disks: disks_in(alloc, audit)?,
+    })
+}
+
+/// The command in these matches, if it is `play`, `run`, `load` or `audit`.
 fn command_in(alloc: Global, matches: &ArgMatches<'_>) -> Result<Option<Command>, AllocError>
     ensures { (command : Command) → IsReadAs (subcommand_rows_of matches.now) command
         → IfOk result (λ read. read ≡ Some command) }
@@ -133,8 +150,11 @@ fn command_in(alloc: Global, matches: &ArgMatches<'_>) -> Result<Option<Command>
     if let Some(run) = matches.subcommand_matches("run") {
         return Ok(Some(run_of(alloc, run)?));
     }
-    match matches.subcommand_matches("load") {
-        Some(load) => Ok(load_of(load)),
+    if let Some(load) = matches.subcommand_matches("load") {
+        return Ok(load_of(load));
+    }
+    match matches.subcommand_matches("audit") {
+        Some(audit) => Ok(Some(audit_of(alloc, audit)?)),
         None => Ok(None),
     }
 }
@@ -157,7 +177,7 @@ fn told_of(alloc: Global, error: &Error) -> Result<Command, WordsFault>
 }
 
 /// What the words behind the program's name ask for. A command comes of the words that ask for it, and of no others:
-/// so of none whose first is neither `play` nor `run` nor `load`.
+/// so of none whose first is neither `play` nor `run` nor `load` nor `audit`.
 pub fn command_of(alloc: Global, words: &[String]) -> Result<Command, WordsFault>
     ensures given { (command : Command) → AsksFor command (map string_bytes words.now) → IsGiven command result }
     ensures asked { IfOk result (λ command. AsksFor command (map string_bytes words.now) ⊎ IsText command) }
@@ -177,7 +197,8 @@ pub fn command_of(alloc: Global, words: &[String]) -> Result<Command, WordsFault
     }
 }
 
-/// The folder whose files the words ask a run over, if they name one. Words that ask for no run name none.
+/// The folder whose files the words ask a run or an audit over, if they name one. Words that ask for neither name
+/// none.
 pub fn folder_of(alloc: Global, words: &[String]) -> Result<Option<FolderPath>, AllocError>
     ensures { IfOk result (λ folder. NamesFolder folder (map string_bytes words.now)) }
 {

@@ -90,8 +90,41 @@ fn a_load_is_asked_for(rt: HostRuntime) -> Result<(), Fail> {
     Ok(())
 }
 
+/// A line, and the folder of the audit that it asks for.
+static AUDITS: [(&str, &str); 4] = [
+    ("audit", ""),
+    ("audit --", ""),
+    ("audit --disks here --", "here"),
+    ("audit --disks=--trace", "--trace"),
+];
+
+// The folder of the audit that a line asks for.
+fn audited(alloc: Global, line: &str) -> Result<String, Fail> {
+    match asked(alloc, line)? {
+        Ok(Command::Audit { disks }) => match disks {
+            Some(folder) => Ok(folder.into_string()),
+            None => Ok(String::new(alloc)),
+        },
+        _ => Err(Fail::from("audit")),
+    }
+}
+
+#[test]
+fn audits_are_asked_for(rt: HostRuntime) -> Result<(), Fail> {
+    for &(line, folder) in &AUDITS {
+        assert!(rt; audited(rt.alloc(), line)?.as_str() == folder);
+    }
+    Ok(())
+}
+
 /// The lines that ask for a text with the statuses and an example, and what marks each of these.
-static TEXTS: [&str; 4] = ["--help", "play --help", "run --help", "load --help"];
+static TEXTS: [&str; 5] = [
+    "--help",
+    "play --help",
+    "run --help",
+    "load --help",
+    "audit --help",
+];
 
 static MARKS: [&str; 9] = [
     "\n  0  ",
@@ -123,6 +156,17 @@ fn texts_name_the_statuses(rt: HostRuntime) -> Result<(), Fail> {
     Ok(())
 }
 
+/// The lines that ask for a text with the status of a no.
+static TEXTS_OF_AUDITS: [&str; 2] = ["--help", "audit --help"];
+
+#[test]
+fn texts_name_the_status_of_a_no(rt: HostRuntime) -> Result<(), Fail> {
+    for line in &TEXTS_OF_AUDITS {
+        assert!(rt; said(rt.alloc(), line)?.as_str().contains("\n  8  "));
+    }
+    Ok(())
+}
+
 #[test]
 fn the_version_is_told(rt: HostRuntime) -> Result<(), Fail> {
     assert!(rt; said(rt.alloc(), "--version")?.as_str() == "walter 0.1.0\n");
@@ -130,7 +174,7 @@ fn the_version_is_told(rt: HostRuntime) -> Result<(), Fail> {
 }
 
 /// A line of wrong words, and what the message of the mistake has.
-static MISTAKES: [(&str, &str); 11] = [
+static MISTAKES: [(&str, &str); 13] = [
     (
         "play --trce",
         "error: unexpected argument '--trce' found\n\n  tip: a similar argument exists: '--trace'\n\nUsage: walter play --trace\n\nFor more information, try '--help'.\n",
@@ -145,6 +189,8 @@ static MISTAKES: [(&str, &str); 11] = [
     ("play --disks a --disks b", "'--disks <DIR>'"),
     ("play --disks --trace", "'--disks <DIR>'"),
     ("load --seed 7 --calls 1 --disks a", "'--disks'"),
+    ("audit --trace", "'--trace'"),
+    ("audit --disks", "'--disks <DIR>'"),
 ];
 
 #[test]

@@ -3,9 +3,12 @@ use Rattle.std.specs.Prelude.{IfSome}
 use Rattle.std.proofs.lemmas.List.{length-append}
 use Rattle.walter_cluster.proofs.Opened.{untouched}
 use Rattle.walter_cli.specs.Disks.{AreTaken}
-use Rattle.walter_cli.specs.Racks.{RackAt, rack_at}
+use Rattle.walter_cli.specs.Racks.{RackAt, rack_at, racked}
 use Rattle.walter_cli.specs.declared.ended.Fault.TheVariants.{Memory, Rack}
-use Rattle.walter_cli.proofs.Early.{ends_before, ends_early}
+use Rattle.walter_inspect.proofs.Growing.{only_same}
+use Rattle.walter_cli.specs.Audits.{IsKept}
+use Rattle.walter_cli.proofs.Audited.{each_kept}
+use Rattle.walter_cli.proofs.Early.{each_none, ends_before, ends_early}
 use Rattle.walter_cli.proofs.Giving.{IsReturned, took_all, lacks_behind}
 use Rattle.walter_cli.proofs.Racking.{taken_more, err_never}
 use Rattle.walter_cli.proofs.disks.take_all.Goals as goal
@@ -53,6 +56,65 @@ returns-in-Err-clause-fault g c =
         lacks = lacks_behind g.R.D.Disk a d e disks disks is_back c.loop-site.site (let l = is.long in omega (arith, l));
       }),
     )
+
+pub returns-in_default-clause-kept : goal.returns-in_default-clause-kept
+returns-in_default-clause-kept g c =
+    let a : RackAt g.row.R-D.Denot = rack_at g.R.Rack c.args.rack.now in
+    each_none g.R.D.Disk a a (IsKept (racked g.R.D.Disk a a)) refl
+
+pub returns-in-Err-clause-untaken : goal.returns-in-Err-clause-untaken
+returns-in-Err-clause-untaken g c =
+    let a : RackAt g.row.R-D.Denot = rack_at g.R.Rack c.args.rack.now in
+    let b : RackAt g.row.R-D.Denot = rack_at g.R.Rack c.loop-site.rack in
+    let d : RackAt g.row.R-D.Denot = rack_at g.R.Rack c.take.new.self in
+    let e : RackAt g.row.R-D.Denot = rack_at g.R.Rack c.give_all.new.rack in
+    let is = c.loop-site.invariant in
+    let taken = is.taken in
+    let rose : b.faults < d.faults = c.in-Err.ensures.cause in
+    let gives = c.give_all.ensures.given in
+    let disks = c.loop-site.disks.items in
+    let level = taken.faults in
+    let is_back : IsReturned g.R.D.Disk a d e disks disks = record {
+      told = taken.told;
+      fresh = taken.fresh;
+      same_given = c.in-Err.ensures.same_given ∙ taken.given;
+      same_handed = c.in-Err.ensures.same_handed ∙ taken.handed;
+      many = c.in-Err.ensures.same_taken ∙ taken.taken;
+      level = omega (arith, level, rose);
+      long = refl;
+      gives = gives;
+    } in (
+      c.loop-site-test.true,
+      record {
+        failed = (let l = gives.level in omega (arith, level, rose, l));
+        before = took_all g.R.D.Disk a d e disks disks is_back ∙ ap (λ (n : ℕ). a.taken + n) is.long;
+        lacks = lacks_behind g.R.D.Disk a d e disks disks is_back c.loop-site.site (let l = is.long in omega (arith, l));
+      },
+    )
+
+pub returns-in-Err-clause-kept : goal.returns-in-Err-clause-kept
+returns-in-Err-clause-kept g c =
+    let a : RackAt g.row.R-D.Denot = rack_at g.R.Rack c.args.rack.now in
+    let b : RackAt g.row.R-D.Denot = rack_at g.R.Rack c.loop-site.rack in
+    let d : RackAt g.row.R-D.Denot = rack_at g.R.Rack c.take.new.self in
+    let e : RackAt g.row.R-D.Denot = rack_at g.R.Rack c.give_all.new.rack in
+    let is = c.loop-site.invariant in
+    let taken = is.taken in
+    let rose : b.faults < d.faults = c.in-Err.ensures.cause in
+    let gives = c.give_all.ensures.given in
+    let disks = c.loop-site.disks.items in
+    let level = taken.faults in
+    let is_back : IsReturned g.R.D.Disk a d e disks disks = record {
+      told = taken.told;
+      fresh = taken.fresh;
+      same_given = c.in-Err.ensures.same_given ∙ taken.given;
+      same_handed = c.in-Err.ensures.same_handed ∙ taken.handed;
+      many = c.in-Err.ensures.same_taken ∙ taken.taken;
+      level = omega (arith, level, rose);
+      long = refl;
+      gives = gives;
+    } in
+    each_kept g.R.D.Disk c.args.scenario.now a d e disks disks is_back (only_same g.R.D.Disk disks)
 
 pub loop-site-preserved : goal.loop-site-preserved
 loop-site-preserved g c =

@@ -6,6 +6,7 @@ use Rattle.walter_disk_memory.specs.MemoryRacks.{RackState, rack_of, unfailing_o
 use Rattle.walter_disk_memory.specs.contracts.memory_disk.MemoryDiskDisk.TheImpl.{ghosts as disk_ghosts}
 use Rattle.walter_disk_memory.specs.contracts.memory_rack.MemoryRackRack.TheImpl.{ghosts as rack_ghosts}
 use Rattle.walter_cli.specs.Assurance.{Assures, in_memory}
+use Rattle.walter_cli.specs.Audits.{AuditPromise}
 use Rattle.walter_cli.specs.Headline.{Outside}
 use Rattle.walter_cli.specs.declared.ended.Ended.{Ended}
 use Rattle.walter_cli.specs.Racks.{RackAt, rack_at, Holds, racked}
@@ -30,15 +31,28 @@ of_made : (words : List (String Global)) (made last : RackState) (before after :
 of_made words made last before after ended is assures =
     subst (λ (r : RackState). Assures words (racked disk_ghosts (at r) (at last)) before after ended) is assures
 
-pub returns-in_default : goal.returns-in_default
-returns-in_default g c = c.without_memory.ensures.assured c.args.words.now _
+-- and what an audit promises
+audit_made : (made last : RackState) (before after : Outside) (ended : Ended) → made ≡ rack_of [] 32
+    → AuditPromise (racked disk_ghosts (at made) (at last)) before after ended → AuditPromise (in_memory last) before after ended
+audit_made made last before after ended is promise =
+    subst (λ (r : RackState). AuditPromise (racked disk_ghosts (at r) (at last)) before after ended) is promise
 
-pub returns : goal.returns
-returns g c =
+pub returns-in_default-clause-assured : goal.returns-in_default-clause-assured
+returns-in_default-clause-assured g c = λ no_audit. c.without_memory.ensures.assured c.args.words.now _
+
+pub returns-in_default-clause-audit : goal.returns-in_default-clause-audit
+returns-in_default-clause-audit g c = λ asks. c.without_memory.ensures.audit _
+
+pub returns-clause-audit : goal.returns-clause-audit
+returns-clause-audit g c = λ asks.
+    audit_made c.in-Ok.rack c.top-ended.new.rack _ _ c.top-ended.result c.in-Ok.ensures.rack (c.top-ended.ensures.audit asks)
+
+pub returns-clause-assured : goal.returns-clause-assured
+returns-clause-assured g c = λ no_audit.
     let is = c.in-Ok.ensures.rack in
     let last = at c.top-ended.new.rack in
     of_made c.args.words.now c.in-Ok.rack c.top-ended.new.rack _ _ c.top-ended.result is
-    (assured c.args.words.now disk_ghosts (at c.in-Ok.rack) last _ _ c.top-ended.result c.top-ended.ensures (λ i. refl)
+    (assured c.args.words.now disk_ghosts (at c.in-Ok.rack) last _ _ c.top-ended.result (c.top-ended.ensures.promise no_audit) (λ i. refl)
     (λ i. subst (λ (r : RackState). Holds (racked disk_ghosts (at r) last) i (λ bytes. bytes ≡ [])) (sym is) refl)
     (subst (λ (r : RackState). 32 ≤ unfailing_of r) (sym is) (omega arith))
     (ap (λ (r : RackState). Some r.handed) is)

@@ -3,9 +3,9 @@ use Rattle.std.specs.Prelude.{codes}
 use Rattle.std.specs.Fmt.{decimal}
 use Rattle.hex.specs.Hex.{encode_lower}
 use Rattle.walter_report.specs.Reports.{reply_frame}
-use Rattle.walter_report.specs.Words.{line_feed, or_dash}
+use Rattle.walter_page.specs.Words.{line_feed, or_dash}
 use Rattle.walter_report.proofs.Fitting.{count_places, frames_places, fit_places}
-use Rattle.walter_report.proofs.Going.{cuts, cut_more, cut_as, put_cut, put_as, put_then, put_last}
+use Rattle.walter_page.proofs.Going.{cuts, cut_more, cut_as, put_cut, put_as, put_then, put_last}
 use Rattle.walter_report.proofs.clients.put_client_line.Goals as goal
 
 abbrev head : ℕ → ℕ → ℕ → List ℕ

@@ -1,7 +1,7 @@
 use Rattle.std.proofs.Common.{◌+◌, drop}
 use Rattle.walter_report.specs.Answered.{answered_lines}
 use Rattle.walter_report.proofs.Fitting.{answered_next}
-use Rattle.walter_report.proofs.Going.{goes_on, goes_as, goes_err}
+use Rattle.walter_page.proofs.Going.{goes_on, goes_as, goes_err}
 use Rattle.walter_report.proofs.clients.put_client_lines.Goals as goal
 
 pub loop-number-preserved : goal.loop-number-preserved

@@ -1,6 +1,6 @@
 use Rattle.std.proofs.Common.{drop}
 use Rattle.walter_report.specs.Answered.{answered_lines}
-use Rattle.walter_report.proofs.Going.{Goes}
+use Rattle.walter_page.proofs.Going.{Goes}
 use Rattle.walter_report.proofs.clients.put_client_lines.Given as goal
 
 abbrev pub invariant-loop-number : goal.invariant-loop-number

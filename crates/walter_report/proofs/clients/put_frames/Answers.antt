@@ -5,11 +5,11 @@ use Rattle.std.specs.Borrow.{Bor}
 use Rattle.hex.specs.Hex.{encode_lower}
 use Rattle.walter_base.specs.declared.message.Reply.{Reply}
 use Rattle.walter_report.specs.Reports.{reply_frame}
-use Rattle.walter_report.specs.Words.{or_dash}
-use Rattle.walter_report.proofs.Digits.{encode_lower-append, encode_lower-none, dash_of, digits_of}
+use Rattle.walter_page.specs.Words.{or_dash}
+use Rattle.walter_page.proofs.Digits.{encode_lower-append, encode_lower-none, dash_of, digits_of}
 use Rattle.walter_report.proofs.Fitting.{frame_some}
-use Rattle.walter_report.proofs.Going.{goes_first, goes_on, goes_end, goes_as, goes_err, put_as, cut_as, puts_as}
-use Rattle.walter_report.proofs.Tallied.{flat_map-drop_more}
+use Rattle.walter_page.proofs.Going.{goes_first, goes_on, goes_end, goes_as, goes_err, put_as, cut_as, puts_as}
+use Rattle.walter_page.proofs.Parted.{flat_map-drop_more}
 use Rattle.walter_report.proofs.clients.put_frames.Goals as goal
 
 abbrev bytes_of : Bor Reply → List ℕ

@@ -1,8 +1,8 @@
 use Rattle.std.proofs.Common.{drop, flat_map}
 use Rattle.hex.specs.Hex.{encode_lower}
 use Rattle.walter_report.specs.Reports.{reply_frame}
-use Rattle.walter_report.specs.Words.{or_dash}
-use Rattle.walter_report.proofs.Going.{Goes}
+use Rattle.walter_page.specs.Words.{or_dash}
+use Rattle.walter_page.proofs.Going.{Goes}
 use Rattle.walter_report.proofs.clients.put_frames.Given as goal
 
 abbrev pub invariant-loop-reply : goal.invariant-loop-reply

@@ -1,8 +1,8 @@
 use Rattle.std.proofs.Common.{◌++◌, ap, sym, ◌∙◌}
 use Rattle.walter_rules.specs.Knowledge.{site_at}
-use Rattle.walter_report.specs.Lists.{has_pieces, list_behind}
+use Rattle.walter_page.specs.Lists.{has_pieces, list_behind}
 use Rattle.walter_report.specs.Sites.{record_in, log_pieces}
-use Rattle.walter_report.proofs.Going.{cuts, cut_more, cut_as, put_last, puts_as}
+use Rattle.walter_page.proofs.Going.{cuts, cut_more, cut_as, put_last, puts_as}
 use Rattle.walter_report.proofs.Logged.{pieces_both}
 use Rattle.walter_report.proofs.logs.put_entry.Goals as goal
 

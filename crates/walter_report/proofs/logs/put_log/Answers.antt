@@ -1,11 +1,11 @@
 use Rattle.std.proofs.Common.{◌≡◌, ◌<◌, ◌++◌, ◌+◌, ◌∷◌, [], ℕ, List, false, drop, length, ap, sym, refl, arith}
 use Rattle.std.specs.Prelude.{codes}
 use Rattle.walter_rules.specs.Knowledge.{site_at}
-use Rattle.walter_report.specs.Lists.{has_pieces, list_behind}
+use Rattle.walter_page.specs.Lists.{has_pieces, list_behind}
 use Rattle.walter_report.specs.Sites.{record_in, records, log_pieces}
-use Rattle.walter_report.specs.Words.{listed}
-use Rattle.walter_report.proofs.Going.{cuts, cut_more, put_last, puts_as, goes_from, goes_on, goes_as, goes_err}
-use Rattle.walter_report.proofs.Joined.{listed_behind}
+use Rattle.walter_page.specs.Words.{listed}
+use Rattle.walter_page.proofs.Going.{cuts, cut_more, put_last, puts_as, goes_from, goes_on, goes_as, goes_err}
+use Rattle.walter_page.proofs.Joined.{listed_behind}
 use Rattle.walter_report.proofs.Logged.{pieces_next}
 use Rattle.walter_report.proofs.logs.put_log.Goals as goal
 

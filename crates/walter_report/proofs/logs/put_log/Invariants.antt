@@ -1,10 +1,10 @@
 use Rattle.std.proofs.Common.{◌++◌, drop}
 use Rattle.std.specs.Prelude.{codes}
 use Rattle.walter_rules.specs.Knowledge.{site_at}
-use Rattle.walter_report.specs.Lists.{list_behind}
+use Rattle.walter_page.specs.Lists.{list_behind}
 use Rattle.walter_report.specs.Sites.{records, log_pieces}
-use Rattle.walter_report.specs.Words.{listed}
-use Rattle.walter_report.proofs.Going.{Goes}
+use Rattle.walter_page.specs.Words.{listed}
+use Rattle.walter_page.proofs.Going.{Goes}
 use Rattle.walter_report.proofs.logs.put_log.Given as goal
 
 abbrev pub invariant-loop-entry : goal.invariant-loop-entry

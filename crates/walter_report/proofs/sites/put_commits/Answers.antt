@@ -3,8 +3,8 @@ use Rattle.std.specs.Prelude.{codes}
 use Rattle.std.specs.Fmt.{decimal}
 use Rattle.walter_rules.specs.Knowledge.{site_at}
 use Rattle.walter_report.specs.Sites.{records, is_got, is_seen, counts_text, log_pieces}
-use Rattle.walter_report.specs.Words.{line_feed, listed}
-use Rattle.walter_report.proofs.Going.{cuts, cut_more, cut_as, put_cut, put_as, put_then, put_last}
+use Rattle.walter_page.specs.Words.{line_feed, listed}
+use Rattle.walter_page.proofs.Going.{cuts, cut_more, cut_as, put_cut, put_as, put_then, put_last}
 use Rattle.walter_report.proofs.sites.put_commits.Goals as goal
 
 pub returns-in_err-put_counts : goal.returns-in_err-put_counts

@@ -1,7 +1,7 @@
 use Rattle.std.proofs.Common.{length}
 use Rattle.walter_rules.specs.Knowledge.{site_at}
 use Rattle.walter_report.specs.Sites.{records, commits_part}
-use Rattle.walter_report.proofs.Going.{cuts, cut_more, put_last}
+use Rattle.walter_page.proofs.Going.{cuts, cut_more, put_last}
 use Rattle.walter_report.proofs.sites.put_site_line.Goals as goal
 
 pub returns-in_err-put_events : goal.returns-in_err-put_events

@@ -1,7 +1,7 @@
 use Rattle.std.proofs.Common.{◌+◌, drop, length}
 use Rattle.walter_rules.specs.Knowledge.{site_at}
 use Rattle.walter_report.specs.Sites.{is_up, records, site_lines}
-use Rattle.walter_report.proofs.Going.{goes_on, goes_as, goes_err}
+use Rattle.walter_page.proofs.Going.{goes_on, goes_as, goes_err}
 use Rattle.walter_report.proofs.Lined.{site_next}
 use Rattle.walter_report.proofs.Telling.{counted_sites, tells_of, tells_itself}
 use Rattle.walter_report.proofs.sites.put_site_lines.Goals as goal

@@ -1,6 +1,6 @@
 use Rattle.std.proofs.Common.{drop}
 use Rattle.walter_report.specs.Sites.{site_lines}
-use Rattle.walter_report.proofs.Going.{Goes}
+use Rattle.walter_page.proofs.Going.{Goes}
 use Rattle.walter_report.proofs.sites.put_site_lines.Given as goal
 
 abbrev pub invariant-loop-site : goal.invariant-loop-site

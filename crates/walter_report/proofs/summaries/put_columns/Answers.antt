@@ -2,7 +2,7 @@ use Rattle.std.proofs.Common.{◌≡◌, ◌++◌, ℕ, List, slice_index, ap, a
 use Rattle.std.specs.Prelude.{codes}
 use Rattle.std.specs.Fmt.{decimal}
 use Rattle.walter_report.specs.Summaries.{column_part, columns_part}
-use Rattle.walter_report.proofs.Going.{puts_as}
+use Rattle.walter_page.proofs.Going.{puts_as}
 use Rattle.walter_report.proofs.summaries.put_columns.Goals as goal
 
 -- one column more, whose word and number stand behind the text or together

@@ -2,7 +2,7 @@ use Rattle.std.proofs.Common.{length, ap}
 use Rattle.walter_rules.specs.Knowledge.{site_at}
 use Rattle.walter_report.specs.Sites.{records, log_pieces, events_part}
 use Rattle.walter_report.specs.Summaries.{count_part, count_line}
-use Rattle.walter_report.proofs.Going.{cuts, cut_more, put_last, puts_as}
+use Rattle.walter_page.proofs.Going.{cuts, cut_more, put_last, puts_as}
 use Rattle.walter_report.proofs.summaries.put_count_line.Goals as goal
 use Rattle.std.proofs.Common.{◌++◌}
 

@@ -2,7 +2,7 @@ use Rattle.std.proofs.Common.{◌+◌, drop}
 use Rattle.walter_rules.specs.Knowledge.{site_at}
 use Rattle.walter_report.specs.Sites.{is_up, records}
 use Rattle.walter_report.specs.Summaries.{count_lines}
-use Rattle.walter_report.proofs.Going.{goes_on, goes_as, goes_err}
+use Rattle.walter_page.proofs.Going.{goes_on, goes_as, goes_err}
 use Rattle.walter_report.proofs.Lined.{count_next}
 use Rattle.walter_report.proofs.Telling.{tells_of, tells_itself}
 use Rattle.walter_report.proofs.summaries.put_count_lines.Goals as goal

@@ -1,6 +1,6 @@
 use Rattle.std.proofs.Common.{drop}
 use Rattle.walter_report.specs.Summaries.{count_lines}
-use Rattle.walter_report.proofs.Going.{Goes}
+use Rattle.walter_page.proofs.Going.{Goes}
 use Rattle.walter_report.proofs.summaries.put_count_lines.Given as goal
 
 abbrev pub invariant-loop-site : goal.invariant-loop-site

@@ -1,7 +1,7 @@
 use Rattle.std.proofs.Common.{ap}
 use Rattle.walter_report.specs.Summaries.{all_replies, in_columns, columns_part}
-use Rattle.walter_report.specs.Words.{line_feed}
-use Rattle.walter_report.proofs.Going.{cuts, cut_more, cut_as, put_cut, put_as, put_then, put_last}
+use Rattle.walter_page.specs.Words.{line_feed}
+use Rattle.walter_page.proofs.Going.{cuts, cut_more, cut_as, put_cut, put_as, put_then, put_last}
 use Rattle.walter_report.proofs.summaries.put_replies_line.Goals as goal
 
 pub returns-in_err-put : goal.returns-in_err-put

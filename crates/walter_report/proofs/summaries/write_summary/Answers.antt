@@ -1,6 +1,6 @@
 use Rattle.std.proofs.Common.{append-nil}
 use Rattle.walter_report.specs.Summaries.{all_replies, replies_line, count_lines, summary_text}
-use Rattle.walter_report.proofs.Going.{cut_more, cut_as, put_cut, put_then, written, unwritten}
+use Rattle.walter_page.proofs.Going.{cut_more, cut_as, put_cut, put_then, written, unwritten}
 use Rattle.walter_report.proofs.summaries.write_summary.Goals as goal
 
 pub returns-in_err-put_load_line-clause-fault : goal.returns-in_err-put_load_line-clause-fault

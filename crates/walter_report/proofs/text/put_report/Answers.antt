@@ -3,7 +3,7 @@ use Rattle.walter_report.specs.Answered.{answered_lines}
 use Rattle.walter_report.specs.Reports.{client_lines}
 use Rattle.walter_report.specs.Sites.{site_lines}
 use Rattle.walter_report.proofs.Fitting.{answered_fit, answered_as}
-use Rattle.walter_report.proofs.Going.{cuts, cut_more, cut_as, put_cut, put_as, put_then, put_last}
+use Rattle.walter_page.proofs.Going.{cuts, cut_more, cut_as, put_cut, put_as, put_then, put_last}
 use Rattle.walter_report.proofs.text.put_report.Goals as goal
 
 pub put_client_lines-requires-clause-frames : goal.put_client_lines-requires-clause-frames

@@ -6,7 +6,7 @@ use Rattle.walter_rules.specs.Merges.{Named, merge}
 use Rattle.walter_report.specs.Reports.{reply_in, report_text}
 use Rattle.walter_report.specs.Texts.{shown_of, text_of}
 use Rattle.walter_report.specs.Traces.{HasSpellings, HaveSpellings, trace_lines}
-use Rattle.walter_report.proofs.Going.{cut_more, cut_as, put_cut, put_as, put_then, written, unwritten}
+use Rattle.walter_page.proofs.Going.{cut_more, cut_as, put_cut, put_as, put_then, written, unwritten}
 use Rattle.walter_report.proofs.Merged.{All-merge, merge_below}
 use Rattle.walter_report.proofs.Shown.{text_whole, shown_all, shown_many, shown_spelled}
 use Rattle.walter_report.proofs.text.write_report.Goals as goal

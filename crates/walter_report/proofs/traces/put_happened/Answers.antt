@@ -1,6 +1,6 @@
 use Rattle.std.specs.Prelude.{codes}
 use Rattle.walter_report.specs.Traces.{event_text, outcome_text}
-use Rattle.walter_report.proofs.Going.{cuts, cut_more, put_cut, put_then, put_last}
+use Rattle.walter_page.proofs.Going.{cuts, cut_more, put_cut, put_then, put_last}
 use Rattle.walter_report.proofs.traces.put_happened.Goals as goal
 
 pub returns-in_err-put_parts : goal.returns-in_err-put_parts

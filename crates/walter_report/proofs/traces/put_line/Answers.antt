@@ -1,5 +1,5 @@
 use Rattle.walter_report.specs.Traces.{records_part, sends_part}
-use Rattle.walter_report.proofs.Going.{cuts, cut_more, put_cut, put_then, put_last}
+use Rattle.walter_page.proofs.Going.{cuts, cut_more, put_cut, put_then, put_last}
 use Rattle.walter_report.proofs.traces.put_line.Goals as goal
 
 pub returns-in_err-put_happened : goal.returns-in_err-put_happened

@@ -5,7 +5,7 @@ use Rattle.walter_base.specs.declared.format.Format.TheVariants.{First}
 use Rattle.walter_base.specs.Sizes.{most_in}
 use Rattle.walter_rules.specs.Merges.{Named}
 use Rattle.walter_report.specs.Traces.{HasSpellings, trace_line, trace_lines, format_of, formats_after}
-use Rattle.walter_report.proofs.Going.{goes_on, goes_as, goes_err}
+use Rattle.walter_page.proofs.Going.{goes_on, goes_as, goes_err}
 use Rattle.walter_report.proofs.Spelled.{are_spelled, fits_after}
 use Rattle.walter_report.proofs.Traced.{trace_lines-drop_more}
 use Rattle.walter_report.proofs.traces.put_lines.Goals as goal

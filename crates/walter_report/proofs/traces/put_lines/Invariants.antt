@@ -2,7 +2,7 @@ use Rattle.std.proofs.Common.{◌≡◌, ◌≤◌, All, length, drop}
 use Rattle.walter_base.specs.declared.format.Format.{Format}
 use Rattle.walter_base.specs.Sizes.{most_in}
 use Rattle.walter_report.specs.Traces.{trace_lines}
-use Rattle.walter_report.proofs.Going.{Goes}
+use Rattle.walter_page.proofs.Going.{Goes}
 use Rattle.walter_report.proofs.traces.put_lines.Given as goal
 
 abbrev pub invariant-loop-site : goal.invariant-loop-site

@@ -1,10 +1,10 @@
 use Rattle.std.proofs.Common.{◌<◌, ◌+◌, ◌++◌, map, drop, length, nat_lt, get_or, append-nil, ap, ◌∙◌, arith}
 use Rattle.std.proofs.lemmas.Bool.Decides.{nat_tests}
 use Rattle.std.proofs.lemmas.List.{length-map}
-use Rattle.walter_report.specs.Lists.{comma_behind, list_behind}
+use Rattle.walter_page.specs.Lists.{comma_behind, list_behind}
 use Rattle.walter_report.specs.Traces.{send_text}
-use Rattle.walter_report.proofs.Going.{goes_first, goes_on, goes_as, goes_err, put_as, cut_as}
-use Rattle.walter_report.proofs.Joined.{listed_behind, list_behind-next}
+use Rattle.walter_page.proofs.Going.{goes_first, goes_on, goes_as, goes_err, put_as, cut_as}
+use Rattle.walter_page.proofs.Joined.{listed_behind, list_behind-next}
 use Rattle.walter_report.proofs.traces.put_packets.Goals as goal
 
 pub loop-place-init : goal.loop-place-init

@@ -1,7 +1,7 @@
 use Rattle.std.proofs.Common.{drop, map, nat_lt}
-use Rattle.walter_report.specs.Lists.{list_behind}
+use Rattle.walter_page.specs.Lists.{list_behind}
 use Rattle.walter_report.specs.Traces.{send_text, sends_text}
-use Rattle.walter_report.proofs.Going.{Goes}
+use Rattle.walter_page.proofs.Going.{Goes}
 use Rattle.walter_report.proofs.traces.put_packets.Given as goal
 
 abbrev pub invariant-loop-place : goal.invariant-loop-place

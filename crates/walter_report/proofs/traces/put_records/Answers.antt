@@ -3,7 +3,7 @@ use Rattle.std.specs.Prelude.{codes}
 use Rattle.walter_base.specs.declared.format.Format.{Format}
 use Rattle.walter_rules.specs.Learning.{format_after as behind}
 use Rattle.walter_report.specs.Traces.{record_text, records_part, format_after}
-use Rattle.walter_report.proofs.Going.{cuts, cut_more, cut_as, put_cut, put_as, put_then, put_last, puts_as}
+use Rattle.walter_page.proofs.Going.{cuts, cut_more, cut_as, put_cut, put_as, put_then, put_last, puts_as}
 use Rattle.walter_report.proofs.traces.put_records.Goals as goal
 
 pub returns-in_err-put_record : goal.returns-in_err-put_record

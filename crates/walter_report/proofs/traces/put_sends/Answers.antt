@@ -2,8 +2,8 @@ use Rattle.std.proofs.Common.{◌++◌, append_assoc, sym, ap, ◌∙◌}
 use Rattle.std.specs.Prelude.{codes}
 use Rattle.std.specs.Fmt.{decimal}
 use Rattle.walter_report.specs.Traces.{sends_text, sends_part}
-use Rattle.walter_report.specs.Words.{line_feed}
-use Rattle.walter_report.proofs.Going.{cuts, cut_more, cut_as, put_cut, put_as, put_then, put_last, puts_as}
+use Rattle.walter_page.specs.Words.{line_feed}
+use Rattle.walter_page.proofs.Going.{cuts, cut_more, cut_as, put_cut, put_as, put_then, put_last, puts_as}
 use Rattle.walter_report.proofs.traces.put_sends.Goals as goal
 
 pub returns-in_err-put : goal.returns-in_err-put

@@ -15,4 +15,5 @@ returns c =
     let top = λ (a : App). a.top in
     let one = c.in_ok-subcommand.ensures.shape c.in_ok-play.ensures.local ∙ ap₂ with_subcommand bare_is (ap top c.in_ok-play.ensures.line) in
     let two = c.in_ok-subcommand-2.ensures.shape c.in_ok-run.ensures.local ∙ ap₂ with_subcommand one (ap top c.in_ok-run.ensures.line) in
-    IfOk-weaker c.subcommand-3.result _ _ (λ d added. added.shape c.in_ok-load.ensures.local ∙ ap₂ with_subcommand two (ap top c.in_ok-load.ensures.line)) c.subcommand-3.ensures
+    let three = c.in_ok-subcommand-3.ensures.shape c.in_ok-load.ensures.local ∙ ap₂ with_subcommand two (ap top c.in_ok-load.ensures.line) in
+    IfOk-weaker c.subcommand-4.result _ _ (λ d added. added.shape c.in_ok-audit.ensures.local ∙ ap₂ with_subcommand three (ap top c.in_ok-audit.ensures.line)) c.subcommand-4.ensures

@@ -1,0 +1,3 @@
+pub mod Inspections
+pub mod Nexts
+pub mod Findings

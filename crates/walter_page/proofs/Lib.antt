@@ -1,0 +1,4 @@
+pub mod Digits
+pub mod Going
+pub mod Joined
+pub mod Parted
