@@ -41,8 +41,10 @@ fn without_steps(alloc: Global, scenario: Scenario) -> Scenario
 }
 
 /// The scenario that the bytes of the source spell, read to their end.
+#[tactic(auto, using(crate::proofs::Wholes::reading_playable))]
 pub fn take_scenario<S: Source>(alloc: Global, source: &mut S) -> Result<Scenario, Fault>
     ensures ok { IfOk result (IsTaken (S.left source.old) (S.left source.new)) }
+    ensures playable { IfOk result IsPlayable }
     ensures fault { IfErr result
         (IsTakeFault (S.left source.old) (S.left source.new) (S.faults source.old) (S.faults source.new)) }
 {

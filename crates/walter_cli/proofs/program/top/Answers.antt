@@ -12,7 +12,7 @@ use Rattle.walter_cli.proofs.Early.{each_none, untaken_before}
 use Rattle.walter_cli.proofs.Judging.{promise_audit, promise_unread}
 use Rattle.walter_cli.proofs.Giving.{none_balances, one_count}
 use Rattle.walter_cli.proofs.Runs.{promise_run, promise_fault, promise_memory, promise_text, promise_usage}
-use Rattle.walter_cli.proofs.Wholes.{can_be_run, posed_steps, reading_playable}
+use Rattle.walter_cli.proofs.Wholes.{can_be_run, posed_steps}
 use Rattle.walter_cli.proofs.program.top.Goals as goal
 
 -- what is wrong with the words
@@ -65,13 +65,10 @@ returns-in-Ok-Say-clause-promise g c = λ no_audit.
     (rw is at c.in-Ok-Say.ensures.follows) c.say.ensures.ends
 
 -- an audit of the journals of a scenario that was read
-pub audit-requires : goal.audit-requires
-audit-requires g c = let taken = c.in-Ok-take_scenario.ensures.ok in reading_playable taken.bytes c.in-Ok-take_scenario.scenario taken.reading
-
 pub returns-in-Ok-take_scenario-clause-promise : goal.returns-in-Ok-take_scenario-clause-promise
 returns-in-Ok-take_scenario-clause-promise g c = λ no_audit.
     let asked = rw c.in-Ok-Audit.field-0-is at c.in-Ok-Audit.ensures.asked in
-    elim asked [ inl asks ↦ absurd (no_audit (c.in-Ok-Audit.disks, asks)) | inr text ↦ absurd text ]
+    elim asked [ inl asks ↦ absurd (no_audit (c.in-Ok-Audit.field-0-0, asks)) | inr text ↦ absurd text ]
 
 pub returns-in-Ok-take_scenario-clause-audit : goal.returns-in-Ok-take_scenario-clause-audit
 returns-in-Ok-take_scenario-clause-audit g c = λ asks.
@@ -81,19 +78,19 @@ returns-in-Ok-take_scenario-clause-audit g c = λ asks.
     promise_audit (racked g.R.D.Disk before after) _ _ c.audit.result done.trails done.kept done.given_back done.unfailing
     (one_count g.R.D.Disk before after) c.in-Ok-take_scenario.scenario c.audit.result.fault refl c.in-Ok-take_scenario.ensures.ok done.ends
 
-pub returns-in-Err-take_scenario-clause-promise : goal.returns-in-Err-take_scenario-clause-promise
-returns-in-Err-take_scenario-clause-promise g c = λ no_audit.
+pub returns-in-Ok-Audit-clause-promise : goal.returns-in-Ok-Audit-clause-promise
+returns-in-Ok-Audit-clause-promise g c = λ no_audit.
     let asked = rw c.in-Ok-Audit.field-0-is at c.in-Ok-Audit.ensures.asked in
-    elim asked [ inl asks ↦ absurd (no_audit (c.in-Ok-Audit.disks, asks)) | inr text ↦ absurd text ]
+    elim asked [ inl asks ↦ absurd (no_audit (c.in-Ok-Audit.field-0-0, asks)) | inr text ↦ absurd text ]
 
-pub returns-in-Err-take_scenario-clause-audit : goal.returns-in-Err-take_scenario-clause-audit
-returns-in-Err-take_scenario-clause-audit g c = λ asks.
+pub returns-in-Ok-Audit-clause-audit : goal.returns-in-Ok-Audit-clause-audit
+returns-in-Ok-Audit-clause-audit g c = λ asks.
     let at : RackAt g.row.R-D.Denot = rack_at g.R.Rack c.args.rack.now in
-    let ended = c.early-in-Err-take_scenario.ensures in
-    promise_unread (racked g.R.D.Disk at at) _ _ c.early-in-Err-take_scenario.result ended.trails
+    let ended = c.early-in-Err.ensures in
+    promise_unread (racked g.R.D.Disk at at) _ _ c.early-in-Err.result ended.trails
     (each_none g.R.D.Disk at at (IsKept (racked g.R.D.Disk at at)) refl)
     (none_balances g.R.D.Disk at at refl refl refl (omega arith)) (λ many rose. omega (arith, rose)) (one_count g.R.D.Disk at at)
-    c.in-Err-take_scenario.fault ended.fault ended.status refl c.in-Err-take_scenario.ensures.fault
+    c.in-Err.fault ended.fault ended.status refl c.in-Err.ensures.fault
 
 -- what isn't one is run
 pub pose-requires : goal.pose-requires
@@ -132,10 +129,10 @@ returns-clause-audit g c = λ asks.
 pub returns-clause-promise : goal.returns-clause-promise
 returns-clause-promise g c = λ no_audit.
     let at : RackAt g.row.R-D.Denot = rack_at g.R.Rack c.args.rack.now in
-    let ended = c.early-in-Err.ensures in
+    let ended = c.early-in-Err-pose.ensures in
     let running : ¬ IsText c.in-Ok.command = search rules in
     let line : Asks c.in-Ok.command c.args.words.now = elim c.in-Ok.ensures.asked [ inl asks ↦ asks | inr text ↦ absurd (running text) ] in
-    promise_fault c.args.words.now (racked g.R.D.Disk at at) _ _ c.early-in-Err.result
+    promise_fault c.args.words.now (racked g.R.D.Disk at at) _ _ c.early-in-Err-pose.result
     (ended.status ∙ ap status_of (sym ended.fault)) (none_balances g.R.D.Disk at at refl refl refl (omega arith))
     (λ many rose. omega (arith, rose)) (one_count g.R.D.Disk at at) c.in-Ok.command line (λ other asks. sym (c.in-Ok.ensures.given other asks))
-    c.in-Err.fault ended.fault ended.trails (untaken_before g.R.D.Disk at at refl refl) refl c.in-Err.ensures.fault
+    c.in-Err-pose.fault ended.fault ended.trails (untaken_before g.R.D.Disk at at refl refl) refl c.in-Err-pose.ensures.fault

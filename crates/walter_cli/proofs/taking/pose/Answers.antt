@@ -1,18 +1,16 @@
 use Rattle.std.proofs.Common.{◌<◌, ◌^◌, length, refl, sym, subst, arith, inl}
-use Rattle.std.proofs.lemmas.Result.{IfOk-weaker}
 use Rattle.walter_linked.specs.Catalogs.{IsWhole}
 use Rattle.walter_scenario.specs.Parts.{IsAreas, IsCapacity, IsThreads}
 use Rattle.walter_scenario.specs.declared.scenario.Scenario.{Scenario}
 use Rattle.walter_cli.specs.Ending.{IsPlayable}
-use Rattle.walter_cli.proofs.Wholes.{made_few, made_whole, playable_but_for_steps, reading_playable}
+use Rattle.walter_cli.proofs.Wholes.{made_few, made_whole, playable_but_for_steps}
 use Rattle.walter_cli.proofs.taking.pose.Goals as goal
 
 pub make-requires : goal.make-requires
 make-requires g c = rw c.in-Load.is at c.requires
 
 pub returns-in-Play-clause-playable : goal.returns-in-Play-clause-playable
-returns-in-Play-clause-playable g c =
-    IfOk-weaker c.take_scenario.result _ _ (λ s taken. reading_playable taken.bytes s taken.reading) c.take_scenario.ensures.ok
+returns-in-Play-clause-playable g c = c.take_scenario.ensures.playable
 
 -- threads drive what was read but for its steps
 pub returns-in_ok-take_scenario-in-Run-clause-ok : goal.returns-in_ok-take_scenario-in-Run-clause-ok
@@ -20,8 +18,7 @@ returns-in_ok-take_scenario-in-Run-clause-ok g c = rw c.in-Run.is (c.in_ok-take_
 
 pub returns-in_ok-take_scenario-in-Run-clause-playable : goal.returns-in_ok-take_scenario-in-Run-clause-playable
 returns-in_ok-take_scenario-in-Run-clause-playable g c =
-    let taken = c.in_ok-take_scenario-in-Run.ensures.ok in
-    subst IsPlayable (sym c.without_steps.ensures) (playable_but_for_steps _ (reading_playable taken.bytes _ taken.reading))
+    subst IsPlayable (sym c.without_steps.ensures) (playable_but_for_steps _ c.in_ok-take_scenario-in-Run.ensures.playable)
 
 pub returns-in-Ok-clause-playable : goal.returns-in-Ok-clause-playable
 returns-in-Ok-clause-playable g c =
