@@ -36,6 +36,7 @@ import generator
 import journals
 import model
 import readings
+from audit import files_in, write_files
 from compare import built, first_difference
 from generator import COMMIT as COMMIT_IT, START as START_IT, frames
 from measured import run_of
@@ -334,10 +335,8 @@ def cause_of(content, capacity, sites):
         return None
     try:
         holding = journals.read(content, capacity, sites)
-    except journals.Foreign:
-        return "it has no journal", 0
-    except journals.Damaged as damaged:
-        return f"its journal is damaged, since it claims a length of {damaged.length}", damaged.place
+    except journals.Wrong as wrong:
+        return wrong.cause, wrong.place
     return ("its journal has records", 8) if journals.bodies_of(holding) else None
 
 
@@ -349,20 +348,6 @@ def journal_of(rng, bases):
     if how < 0.3:
         return bases[0] + changed(rng, bases, PIECES_OF_JOURNAL)
     return changed(rng, bases, PIECES_OF_JOURNAL)
-
-
-def write_files(folder, contents):
-    for site, content in enumerate(contents):
-        with open(os.path.join(folder, f"site-{site}.journal"), "wb") as file:
-            file.write(content)
-
-
-def files_in(folder, sites):
-    found = []
-    for site in range(sites):
-        with open(os.path.join(folder, f"site-{site}.journal"), "rb") as file:
-            found.append(file.read())
-    return found
 
 
 def try_journals(program, bases, seed, met):

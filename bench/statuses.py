@@ -25,6 +25,8 @@ NO_READING = "the scenario has no reading: "
 SITES = readings.TEXTS["sites"]
 CLOSED = None
 MODELS_AT_ONCE = 6
+# How many seconds a case may take, on a machine that may have much else to do.
+LONGEST = 600
 
 
 def file_of(*parts):
@@ -159,7 +161,7 @@ def run(program, words, stdin, sink):
             stdout=out if sink else subprocess.PIPE,
             stderr=subprocess.PIPE,
             encoding="utf-8",
-            timeout=60,
+            timeout=LONGEST,
         )
     return ended.returncode, ended.stderr, ended.stdout or ""
 
