@@ -187,7 +187,7 @@ class Audits:
         if self.program and made.get("areas", 1) == 2:
             made = {**made, "capacity": min(made.get("capacity", MOST_OF_AREAS), MOST_OF_AREAS)}
         with tempfile.TemporaryDirectory(dir=FAST) as folder:
-            files = self.played(folder, made, run)
+            files = self.played(name, folder, made, run)
             self.left += 1
             self.audit(f"{name}, what it left", folder, made, files, (ends.DONE,))
             contents = [journals.content_of(audit.read_as(made, data)) for data in files]
@@ -198,7 +198,7 @@ class Audits:
                     files = [changes.bytes_of(made, content) for content in other]
                     self.met[kind, self.audit(f"{name}, change {number}, {kind}", folder, made, files)] += 1
 
-    def played(self, folder, made, run):
+    def played(self, name, folder, made, run):
         """The journals that a play leaves: by the program no disk is armed, and by the model each settles."""
         if not self.program:
             for site in run.sites:
@@ -207,7 +207,7 @@ class Audits:
         ended = subprocess.run([self.program, "play", "--disks", folder], input=json.dumps(made), capture_output=True,
                                text=True)
         if ended.returncode != ends.DONE:
-            sys.exit(f"{folder}: status {ended.returncode}, {ended.stderr}")
+            sys.exit(f"{name}, over file disks: status {ended.returncode}, {ended.stderr}")
         return audit.files_in(folder, made["sites"])
 
     def audit(self, name, folder, made, files, statuses=(ends.DONE, ends.NOT_LEGAL)):
