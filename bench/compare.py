@@ -289,10 +289,11 @@ def main():
             print(NO_KEY.format(key))
     areas = areas and not words.one_area
     met, audits = Counter(), None
-    if words.audits and program and not knows_audits(program):
-        print("the program knows no audit: no journals are audited")
-    elif words.audits and not words.unproved:
+    if words.scenarios and words.audits and not words.unproved:
         audits = Audits(program, words.audits)
+    if audits and program and not knows_audits(program):
+        print("the program knows no audit: no journals are audited")
+        audits = None
     with tempfile.TemporaryDirectory() as folder:
         for seed, made in made_from(words.seed, words.scenarios, words.several, areas, room, formats):
             run = folds.played(made, met)
