@@ -1,255 +1,146 @@
-#!/usr/bin/env python3
-"""A plain audit of journals: what `walter audit` writes of the journals of all sites, as docs/AUDIT.md has it.
+"""The plain audit: whether journals tell a history that parallel snapshot isolation allows, as docs/AUDIT.md has it.
 
-    python3 bench/audit.py SCENARIO DIR
-
-reads the scenario and the files of the folder, and writes the finding. It shares nothing with the program: it reads each body
-anew, keeps of each site what its records tell, and compares all pairs where a reason speaks of pairs. The status is 0 where the
-journals tell a legal history, 8 where they don't, and 7 where a file is no journal, or a damaged one.
+It is the command `audit` of model.py, and writes what `walter audit` is to write. It shares nothing with the program:
+each body is read anew, what can follow is asked of all records before it, and the reasons are looked for one after
+another, each by its own words. All commits that have a name or an object in common are compared with each other.
 """
 
-import argparse
+import json
 import os
-import struct
+import subprocess
 import sys
-from collections import namedtuple
-from itertools import count
+from collections import defaultdict, namedtuple
+from functools import cached_property
+from itertools import combinations
 
 import journals
 import readings
-from model import Tx, covers, sees, writes_of
-from spelled import *
+from model import covers, sees
 
-REASONS = ["unreadable", "missing", "differs", "twice", "start", "conflict", "cycle"]
-YES, NO, UNFIT = 0, 8, 7
-# What stands behind the updates of a transaction of the first form may not pass this, and no value may be longer.
-MOST_BYTES, MOST_UPDATES, MOST_VALUE, MOST_OBJECTS, HEAD = 60_000, 256, 4_096, 256, 87
+sys.path.append(os.path.join(os.path.dirname(os.path.abspath(__file__)), "..", "tools"))
+import ends
+import reports
+from reports import require
 
-# What a journal holds: the format that its header names, and its bodies.
-Content = namedtuple("Content", "form bodies")
-Own = namedtuple("Own", "site index number tx")
-
-
-class Unreadable(Exception):
-    """A body that spells no record, or one that can't follow."""
+# An own commit: its site and its place there, its number, and its transaction.
+Own = namedtuple("Own", "site index number transaction")
+# Which kind of container the updates of a kind are of.
+KINDS = {"write": "regular", "setadd": "cset", "setdel": "cset"}
 
 
-# ---- records
-
-
-class Body:
-    """The bytes of a body, from the front."""
-
-    def __init__(self, data):
-        self.data, self.at = data, 0
-
-    def take(self, shape):
-        end = self.at + struct.calcsize(shape)
-        if end > len(self.data):
-            raise Unreadable
-        fields = struct.unpack_from(shape, self.data, self.at)
-        self.at = end
-        return fields
-
-    def bytes(self, length):
-        (taken,) = self.take(f">{length}s")
-        return taken
-
-
-def tid_from(body):
-    return body.take(">BIQ")
-
-
-def update_from(body):
-    (kind,) = body.take(">B")
-    if kind not in (1, 2, 3):
-        raise Unreadable
-    oid = body.take(">IQ")
-    if kind == 1:
-        (length,) = body.take(">I")
-        return WRITE, oid, body.bytes(length)
-    (number,) = body.take(">Q")
-    return (SET_ADD if kind == 2 else SET_DEL), oid, number
-
-
-def transaction_from(body, form, sites):
-    tid, (slow,) = tid_from(body), body.take(">Q")
-    if form == 1:
-        numbers = body.take(">8Q")
-        start, rest = numbers[:sites], numbers[sites:]
-        is_right = sites <= 8 and not any(rest)
-    else:
-        (width,) = body.take(">B")
-        is_right = width == sites
-        start = body.take(f">{width}Q")
-    (many,) = body.take(">H")
-    updates = tuple(update_from(body) for _ in range(many))
-    size = HEAD + sum(len(update_of(update)) for update in updates)
-    is_small = 1 <= many <= MOST_UPDATES and size <= MOST_BYTES
-    if not (is_right and is_small and all(len(what) <= MOST_VALUE for kind, _, what in updates if kind == WRITE)):
-        raise Unreadable
-    return Tx(tid, slow, start, updates)
-
-
-def objects_from(body):
-    (many,) = body.take(">H")
-    objects = tuple(body.take(">IQ") for _ in range(many))
-    if not 1 <= many <= MOST_OBJECTS or list(objects) != sorted(set(objects)):
-        raise Unreadable
-    return objects
-
-
-def fields_from(body, kind, form, sites):
-    if kind == BOOT:
-        return body.take(">I")
-    if kind in (OWN, SLOW_BEGIN):
-        return *body.take(">Q"), transaction_from(body, form, sites)
-    if kind == GOT:
-        return *body.take(">BQ"), transaction_from(body, form, sites)
-    if kind in (SEEN, LET_GO):
-        return body.take(">BQ")
-    if kind == PREPARED:
-        return *body.take(">BQ"), tid_from(body), objects_from(body)
-    if kind == SLOW_END:
-        return body.take(">Q")
-    if kind == MARKS:
-        return body.take(">QQ")
-    if kind == FORMAT and body.take(">B") == (2,):
-        return ()
-    raise Unreadable
-
-
-def record_from(data, form, sites):
-    """The record that these bytes spell in a format: its kind and its fields."""
-    body = Body(data)
-    (kind,) = body.take(">B")
-    record = kind, *fields_from(body, kind, form, sites)
-    if body.at != len(data):
-        raise Unreadable
-    return record
+def writes_of(transaction):
+    """The regular objects that a transaction writes."""
+    return {oid for kind, oid, _ in transaction.updates if kind == "write"}
 
 
 # ---- what can follow
 
 
 class Told:
-    """What the records of a site tell, and what can follow them."""
+    """What the records of a site tell, and what can follow them: a record that can't is a ValueError."""
 
     def __init__(self, scenario, me, form):
         self.me, self.count, self.form = me, scenario["sites"], form
         self.containers = {number: (kind, site) for number, kind, site in scenario["containers"]}
         self.epoch, self.got, self.committed = 0, [0] * self.count, [0] * self.count
-        self.log, self.last, self.slow = {}, 0, {}
-        # Of a site's slow commit: ("locked", name, objects) or "over"; and who has an object locked.
-        self.parts, self.owner = {}, {}
+        # The commits that were received; the last slow commit of this site, and those that are undecided.
+        self.received, self.last, self.undecided = {}, 0, {}
+        # What each slow commit has locked here, all that is locked, and the slow commits that are over here.
+        self.locks, self.locked, self.over = {}, set(), set()
         self.durable, self.visible = 0, 0
-
-    def ask(self, holds):
-        if not holds:
-            raise Unreadable
 
     def is_peer(self, site):
         return site != self.me and site < self.count
 
-    def is_declared(self, tx):
-        kinds = {WRITE: "regular", SET_ADD: "cset", SET_DEL: "cset"}
-        return all(self.containers.get(oid[0], (None,))[0] == kinds[kind] for kind, oid, _ in tx.updates)
+    def is_declared(self, transaction):
+        return all(self.containers.get(oid[0], (None,))[0] == KINDS[kind] for kind, oid, _ in transaction.updates)
 
     def is_here(self, oid):
         return self.containers.get(oid[0]) == ("regular", self.me)
 
-    def unlock(self, part):
-        held = self.parts.get(part)
-        if isinstance(held, tuple):
-            del self.parts[part]
-            self.free(held)
+    def lock(self, part, objects):
+        self.locks[part] = objects
+        self.locked.update(objects)
 
-    def free(self, held):
-        for oid in held[2]:
-            self.owner.pop(oid, None)
+    def unlock(self, part):
+        self.locked.difference_update(self.locks.pop(part, ()))
 
     def end(self, part):
-        held = self.parts.get(part)
-        if isinstance(held, tuple):
-            self.free(held)
-        self.parts[part] = "over"
+        self.unlock(part)
+        self.over.add(part)
 
-    def lock(self, part, tid, objects):
-        self.parts[part] = ("locked", tid, objects)
-        for oid in objects:
-            self.owner[oid] = tid
+    def read(self, body):
+        """The record that a body spells, which comes behind those before it."""
+        record = reports.record_spelled(self.form, body, self.count)
+        require(record.kind == "Boot" or self.epoch > 0)
+        getattr(self, f"read_{record.kind.lower()}")(record)
+        return record
 
-    def read(self, record):
-        """The record comes behind those before it."""
-        kind, *fields = record
-        self.ask(kind == BOOT or self.epoch > 0)
-        getattr(self, READERS[kind])(*fields)
-
-    def read_boot(self, epoch):
-        self.ask(epoch == self.epoch + 1)
-        self.epoch = epoch
-        for number in [number for site, number in self.parts if site == self.me]:
+    def read_boot(self, record):
+        require(record.number == self.epoch + 1)
+        self.epoch = record.number
+        for number in self.undecided:
             self.unlock((self.me, number))
-        self.slow = {number: (tx, False) for number, (tx, _) in self.slow.items()}
+        self.undecided = {}
 
-    def read_own(self, number, tx):
-        self.ask(number == self.committed[self.me] + 1 and tx.tid[0] == self.me and self.is_declared(tx))
-        self.ask(tx.slow == 0 or self.slow.get(tx.slow) == (tx, True))
-        if tx.slow:
-            self.slow[tx.slow] = (tx, False)
-        self.unlock((self.me, tx.slow))
+    def read_own(self, record):
+        transaction = record.transaction
+        require(record.number == self.committed[self.me] + 1 and transaction.name[0] == self.me)
+        require(self.is_declared(transaction))
+        require(transaction.slow == 0 or self.undecided.pop(transaction.slow, None) == transaction)
+        self.unlock((self.me, transaction.slow))
         self.got[self.me] += 1
         self.committed[self.me] += 1
-        self.log[self.me, number] = tx
 
-    def read_got(self, site, number, tx):
-        self.ask(self.is_peer(site) and number == self.got[site] + 1)
-        self.ask(covers(self.got, tx.start) and self.is_declared(tx))
+    def read_got(self, record):
+        site, transaction = record.site, record.transaction
+        require(self.is_peer(site) and record.number == self.got[site] + 1)
+        require(covers(self.got, transaction.snapshot) and self.is_declared(transaction))
         self.got[site] += 1
-        self.log[site, number] = tx
+        self.received[site, record.number] = transaction
 
-    def read_seen(self, site, number):
-        self.ask(self.is_peer(site) and number == self.committed[site] + 1 and number <= self.got[site])
-        tx = self.log[site, number]
-        self.ask(covers(self.committed, tx.start))
-        if tx.slow:
-            self.end((site, tx.slow))
+    def read_seen(self, record):
+        site, number = record.site, record.number
+        require(self.is_peer(site) and number == self.committed[site] + 1 and number <= self.got[site])
+        transaction = self.received[site, number]
+        require(covers(self.committed, transaction.snapshot))
+        if transaction.slow:
+            self.end((site, transaction.slow))
         self.committed[site] += 1
 
-    def read_prepared(self, site, number, tid, objects):
-        self.ask(self.is_peer(site) and (site, number) not in self.parts)
-        self.ask(all(self.is_here(oid) and oid not in self.owner for oid in objects))
-        self.lock((site, number), tid, objects)
+    def read_prepared(self, record):
+        part = record.site, record.number
+        require(self.is_peer(record.site) and part not in self.locks and part not in self.over)
+        require(all(self.is_here(oid) and oid not in self.locked for oid in record.objects))
+        self.lock(part, record.objects)
 
-    def read_let_go(self, site, number):
-        self.ask(self.is_peer(site) and self.parts.get((site, number)) != "over")
-        self.end((site, number))
+    def read_released(self, record):
+        part = record.site, record.number
+        require(self.is_peer(record.site) and part not in self.over)
+        self.end(part)
 
-    def read_slow_begin(self, number, tx):
-        here = [oid for oid in writes_of(tx.updates) if self.is_here(oid)]
-        self.ask(number == self.last + 1 and tx.slow == number and self.is_declared(tx))
-        self.ask(not any(oid in self.owner for oid in here))
-        self.last, self.slow[number] = number, (tx, True)
-        self.lock((self.me, number), tx.tid, here)
+    def read_slowbegin(self, record):
+        number, transaction = record.number, record.transaction
+        here = set(filter(self.is_here, writes_of(transaction)))
+        require(number == self.last + 1 and transaction.slow == number and self.is_declared(transaction))
+        require(not here & self.locked)
+        self.last, self.undecided[number] = number, transaction
+        self.lock((self.me, number), here)
 
-    def read_slow_end(self, number):
-        self.ask(number in self.slow and self.slow[number][1])
-        self.slow[number] = (self.slow[number][0], False)
-        self.unlock((self.me, number))
+    def read_slowend(self, record):
+        require(record.number in self.undecided)
+        del self.undecided[record.number]
+        self.unlock((self.me, record.number))
 
-    def read_marks(self, durable, visible):
+    def read_marks(self, record):
+        durable, visible = record.marks
         own = self.committed[self.me]
-        self.ask(self.durable <= durable <= own and self.visible <= visible <= own)
+        require(self.durable <= durable <= own and self.visible <= visible <= own)
         self.durable, self.visible = durable, visible
 
-    def read_format(self):
-        self.ask(self.form == 1)
-        self.form = 2
-
-
-READERS = {BOOT: "read_boot", OWN: "read_own", GOT: "read_got", SEEN: "read_seen", PREPARED: "read_prepared",
-           LET_GO: "read_let_go", SLOW_BEGIN: "read_slow_begin", SLOW_END: "read_slow_end", MARKS: "read_marks",
-           FORMAT: "read_format"}
+    def read_format(self, record):
+        require(self.form == 1)
+        self.form = record.number
 
 
 def records_of(scenario, me, content):
@@ -257,220 +148,259 @@ def records_of(scenario, me, content):
     told, records = Told(scenario, me, content.form), []
     for index, body in enumerate(content.bodies):
         try:
-            record = record_from(body, told.form, told.count)
-            told.read(record)
-        except Unreadable:
+            records.append(told.read(body))
+        except ValueError:
             return records, index
-        records.append(record)
     return records, None
+
+
+# ---- journals
+
+
+class Journals:
+    """The records of all sites up to the first that can't be read, and what the reasons ask of them: each is worked out
+    once, when it is first asked for."""
+
+    def __init__(self, scenario, contents):
+        self.sites, self.records, self.unread = range(scenario["sites"]), [], None
+        for site, content in enumerate(contents):
+            records, index = records_of(scenario, site, content)
+            self.records.append(records)
+            if index is not None:
+                self.unread = site, index
+                break
+
+    @cached_property
+    def owns(self):
+        """The own commits of each site, of which the one of number n has the place n - 1."""
+        return [[Own(site, index, record.number, record.transaction) for index, record in enumerate(records)
+                 if record.kind == "Own"] for site, records in enumerate(self.records)]
+
+    def every_own(self):
+        return (own for owns in self.owns for own in owns)
+
+    def coming(self, *kinds):
+        """The records of these kinds with their places."""
+        for site, records in enumerate(self.records):
+            for index, record in enumerate(records):
+                if record.kind in kinds:
+                    yield (site, index), record
+
+    def made(self, record):
+        """Which commit a record receives or sees, or None where its site hasn't made it."""
+        owns = self.owns[record.site]
+        return owns[record.number - 1] if 0 < record.number <= len(owns) else None
+
+    def counts(self, site):
+        """What each front of a site's records tells: of each site how many commits."""
+        counts = [0 for _ in self.sites]
+        yield tuple(counts)
+        for record in self.records[site]:
+            if record.kind in ("Own", "Seen"):
+                counts[site if record.kind == "Own" else record.site] += 1
+            yield tuple(counts)
+
+    @cached_property
+    def fronts(self):
+        """Of each site the shortest front of each of its counts."""
+        fronts = []
+        for site in self.sites:
+            shortest = {}
+            for place, counts in enumerate(self.counts(site)):
+                shortest.setdefault(counts, place)
+            fronts.append(shortest)
+        return fronts
+
+    def place_of_start(self, own):
+        """The shortest front before an own commit whose counts are its start, or None."""
+        place = self.fronts[own.site].get(own.transaction.snapshot)
+        return place if place is not None and place <= own.index else None
+
+    def items(self, site):
+        """The items of a site: its own commits and those it sees, and the starts, each behind its front."""
+        items, owns = defaultdict(list), iter(self.owns[site])
+        for own in self.owns[site]:
+            items[self.place_of_start(own)].append(("start", own))
+        for index, record in enumerate(self.records[site]):
+            # It stands behind the front that ends before it, and so behind the starts there.
+            if record.kind == "Own":
+                items[index].append(("commit", next(owns)))
+            elif record.kind == "Seen":
+                items[index].append(("arrive", (site, index), record))
+        return [item for place in sorted(items) for item in items[place]]
+
+    @cached_property
+    def taken(self):
+        """The order of all items that can go on, each with its site, and of each site what is left."""
+        order, made = [], [0 for _ in self.sites]
+        left = [list(reversed(self.items(site))) for site in self.sites]
+
+        def can_go_on(site):
+            kind, *rest = left[site][-1] if left[site] else (None,)
+            return kind in ("start", "commit") or kind == "arrive" and rest[1].number <= made[rest[1].site]
+
+        while (site := next(filter(can_go_on, self.sites), None)) is not None:
+            item = left[site].pop()
+            made[site] += item[0] == "commit"
+            order.append((site, item))
+        return order, left
 
 
 # ---- reasons
 
 
-def owns_of(journal, site):
-    return [Own(site, index, number, tx) for index, (kind, *fields) in enumerate(journal) if kind == OWN
-            for number, tx in [fields]]
+def place_of(own):
+    return own.site, own.index
 
 
-def unreadable(scenario, contents):
-    for site, content in enumerate(contents):
-        _, index = records_of(scenario, site, content)
-        if index is not None:
-            return (site, index), (site, index)
-    return None
+def unreadable(told):
+    return told.unread and (told.unread, told.unread)
 
 
-def named(owns, record):
-    """Which commit a record receives or sees: the own commit, or None where there is none."""
-    of = owns[record[1]]
-    return of[record[2] - 1] if 0 < record[2] <= len(of) else None
+def missing(told):
+    return next(((a, a) for a, record in told.coming("Got", "Seen") if told.made(record) is None), None)
 
 
-def coming(everything, kinds):
-    for site, journal in enumerate(everything):
-        for index, record in enumerate(journal):
-            if record[0] in kinds:
-                yield (site, index), record
+def differs(told):
+    return next(((a, place_of(told.made(record))) for a, record in told.coming("Got")
+                 if told.made(record).transaction != record.transaction), None)
 
 
-def missing(everything, owns):
-    return next(((a, a) for a, record in coming(everything, (GOT, SEEN)) if named(owns, record) is None), None)
+def first_pair(groups, is_wrong):
+    """The least pair of own commits of a group of which it is so."""
+    wrong = ((place_of(a), place_of(b)) for group in groups for a, b in combinations(group, 2) if is_wrong(a, b))
+    return min(wrong, default=None)
 
 
-def differs(everything, owns):
-    for a, record in coming(everything, (GOT,)):
-        made = named(owns, record)
-        if made.tx != record[3]:
-            return a, (made.site, made.index)
-    return None
+def grouped(told, keys_of):
+    """The own commits by what some of them may have in common."""
+    groups = defaultdict(list)
+    for own in told.every_own():
+        for key in keys_of(own.transaction):
+            groups[key].append(own)
+    return groups.values()
 
 
-def first_pair(owns, is_wrong):
-    """The least pair of own commits of which it is so."""
-    every = [own for site in owns for own in site]
-    for a in every:
-        for b in every:
-            if a is not b and is_wrong(a, b):
-                return (a.site, a.index), (b.site, b.index)
-    return None
+def twice(told):
+    return first_pair(grouped(told, lambda transaction: [transaction.name]), lambda a, b: True)
 
 
-def twice(owns):
-    return first_pair(owns, lambda a, b: a.tx.tid == b.tx.tid)
+def start(told):
+    return next(((place_of(own), place_of(own)) for own in told.every_own() if told.place_of_start(own) is None), None)
 
 
-def fronts_of(journal, me, sites):
-    """The counts of each front of a site's records: of each site how many commits it tells."""
-    counts = [0] * sites
-    yield tuple(counts)
-    for kind, *fields in journal:
-        if kind == OWN:
-            counts[me] += 1
-        elif kind == SEEN:
-            counts[fields[0]] += 1
-        yield tuple(counts)
+def is_unseen(a, b):
+    return not sees(a.transaction.snapshot, b.site, b.number) and not sees(b.transaction.snapshot, a.site, a.number)
 
 
-def place_of_start(fronts, own):
-    """The shortest front before an own commit whose counts are its start, or None."""
-    return next((place for place in range(own.index + 1) if fronts[place] == own.tx.start), None)
+def conflict(told):
+    return first_pair(grouped(told, writes_of), is_unseen)
 
 
-def start(everything, owns, fronts):
-    for site in owns:
-        for own in site:
-            if place_of_start(fronts[own.site], own) is None:
-                return (own.site, own.index), (own.site, own.index)
-    return None
+def cycle(told):
+    _, left = told.taken
+    # Starts and own commits can always go on, so what is next at a site that can't is an arrival.
+    waiting = next((items[-1] for items in left if items), None)
+    return waiting and (waiting[1], place_of(told.made(waiting[2])))
 
 
-def conflict(owns):
-    def is_wrong(a, b):
-        return (bool(set(writes_of(a.tx.updates)) & set(writes_of(b.tx.updates)))
-                and not sees(a.tx.start, b.site, b.number) and not sees(b.tx.start, a.site, a.number))
-
-    return first_pair(owns, is_wrong)
-
-
-# ---- the order
-
-
-def items_of(journal, me, owns, fronts):
-    """The items of a site: its own commits and those it sees, and the starts, each behind its front."""
-    starts = [[] for _ in range(len(journal) + 1)]
-    for own in owns:
-        starts[place_of_start(fronts, own)].append(("start", own))
-    items = []
-    for index, (kind, *fields) in enumerate(journal):
-        items += starts[index]
-        if kind == OWN:
-            items.append(("commit", Own(me, index, *fields)))
-        elif kind == SEEN:
-            items.append(("arrive", (me, index), *fields))
-    return items + starts[len(journal)]
-
-
-def taken_in_order(queues, owns):
-    """The order, and what is left of each site: again and again the next item of the least site that can go on."""
-    order, made = [], [0] * len(queues)
-    at = [0] * len(queues)
-
-    def can_go_on(site):
-        if at[site] == len(queues[site]):
-            return False
-        item = queues[site][at[site]]
-        return item[0] != "arrive" or item[3] <= made[item[2]]
-
-    while (site := next(filter(can_go_on, range(len(queues))), None)) is not None:
-        item = queues[site][at[site]]
-        at[site] += 1
-        made[site] += item[0] == "commit"
-        order.append((site, item))
-    return order, at
-
-
-def cycle(queues, owns, at):
-    for site, queue in enumerate(queues):
-        if at[site] < len(queue):
-            _, a, of, number = queue[at[site]]
-            b = owns[of][number - 1]
-            return a, (b.site, b.index)
-    return None
-
-
-def line_of(site, item):
-    if item[0] == "arrive":
-        return f"arrive {site} {item[2]}:{item[3]}"
-    own = item[1]
-    tid = ".".join(map(str, own.tx.tid))
-    return f"start {tid}" if item[0] == "start" else f"commit {own.site}:{own.number} {tid}"
+# In their order.
+REASONS = {"unreadable": unreadable, "missing": missing, "differs": differs, "twice": twice, "start": start,
+           "conflict": conflict, "cycle": cycle}
 
 
 def found(scenario, contents):
-    """The finding: None and the order, or a reason and its pair."""
-    wrong = unreadable(scenario, contents)
-    if wrong:
-        return "unreadable", wrong
-    everything = [records_of(scenario, site, content)[0] for site, content in enumerate(contents)]
-    owns = [owns_of(journal, site) for site, journal in enumerate(everything)]
-    for reason, tell in (("missing", missing), ("differs", differs)):
-        wrong = tell(everything, owns)
-        if wrong:
-            return reason, wrong
-    wrong = twice(owns)
-    if wrong:
-        return "twice", wrong
-    fronts = [list(fronts_of(journal, site, len(everything))) for site, journal in enumerate(everything)]
-    wrong = start(everything, owns, fronts)
-    if wrong:
-        return "start", wrong
-    wrong = conflict(owns)
-    if wrong:
-        return "conflict", wrong
-    queues = [items_of(journal, site, owns[site], fronts[site]) for site, journal in enumerate(everything)]
-    order, at = taken_in_order(queues, owns)
-    wrong = cycle(queues, owns, at)
-    return ("cycle", wrong) if wrong else (None, order)
+    """The first reason that stands, with its pair; or None, with the order."""
+    told = Journals(scenario, contents)
+    for reason, pair_of in REASONS.items():
+        pair = pair_of(told)
+        if pair:
+            return reason, pair
+    return None, told.taken[0]
 
 
-def told_of(sites, finding):
-    """The text of a finding, and its status."""
-    reason, what = finding
-    if reason is None:
-        lines = [f"audit yes sites {sites} lines {len(what)}", *(line_of(*item) for item in what)]
-        return "".join(f"{line}\n" for line in lines), YES
-    pair = " ".join(f"{site}.{index}" for site, index in what)
-    return f"audit no {reason} {pair}\n", NO
+# ---- what is written
+
+
+def line_of(site, item):
+    kind, *rest = item
+    if kind == "arrive":
+        record = rest[1]
+        return f"arrive {site} {record.site}:{record.number}"
+    (own,) = rest
+    name = ".".join(map(str, own.transaction.name))
+    return f"start {name}" if kind == "start" else f"commit {own.site}:{own.number} {name}"
+
+
+def text_of(scenario, reason, what):
+    """The text of a finding."""
+    if reason:
+        return f"audit no {reason} {' '.join(f'{site}.{index}' for site, index in what)}\n"
+    lines = [f"audit yes sites {scenario['sites']} lines {len(what)}", *(line_of(*item) for item in what)]
+    return "".join(f"{line}\n" for line in lines)
+
+
+def status_of(reason):
+    return ends.NOT_LEGAL if reason else ends.DONE
 
 
 def audit(scenario, contents):
-    return told_of(scenario["sites"], found(scenario, contents))
+    """What `walter audit` is to write of these journals, and its status."""
+    reason, what = found(scenario, contents)
+    return text_of(scenario, reason, what), status_of(reason)
 
 
-def contents_in(scenario, folder):
-    """What the files of a folder hold, of all sites."""
-    for site in range(scenario["sites"]):
-        with open(os.path.join(folder, f"site-{site}.journal"), "rb") as file:
-            holding = journals.read(file.read(), scenario.get("capacity", readings.CAPACITY), scenario["sites"])
-        yield Content(holding.form, journals.bodies_of(holding))
+# ---- files
 
 
-def main():
-    parser = argparse.ArgumentParser(description=__doc__, formatter_class=argparse.RawDescriptionHelpFormatter)
-    parser.add_argument("scenario", help="the file of a scenario")
-    parser.add_argument("folder", help="the folder with the journals of its sites")
-    words = parser.parse_args()
-    with open(words.scenario, "rb") as file:
-        scenario = readings.read(file.read())
-    try:
-        text, status = audit(scenario, list(contents_in(scenario, words.folder)))
-    except journals.Wrong as wrong:
-        print(wrong, file=sys.stderr)
-        sys.exit(UNFIT)
-    sys.stdout.write(text)
-    sys.exit(status)
+UNFIT = "{}: {} (at place {}); move it away, or name another folder behind --disks"
 
 
-if __name__ == "__main__":
-    main()
+def path_in(folder, site):
+    return os.path.join(folder, f"site-{site}.journal")
+
+
+def data_in(folder, site):
+    """What the file of a site has. One that isn't there is as one with nothing in it."""
+    path = path_in(folder, site)
+    return ends.bytes_of(path) if os.path.exists(path) else b""
+
+
+def files_in(folder, sites):
+    return [data_in(folder, site) for site in range(sites)]
+
+
+def write_files(folder, files):
+    for site, data in enumerate(files):
+        with open(path_in(folder, site), "wb") as file:
+            file.write(data)
+
+
+def read_as(scenario, data):
+    """What these bytes hold as the journal of one of the scenario's sites."""
+    return journals.read(data, scenario.get("capacity", readings.CAPACITY), scenario["sites"])
+
+
+def holdings_in(scenario, folder):
+    """What the files of a folder hold, site by site."""
+    return [read_as(scenario, ends.bytes_of(path_in(folder, site))) for site in range(scenario["sites"])]
+
+
+def ended(scenario, folder, files):
+    """How `walter audit` is to end over files of a folder with these bytes: its status, what it says, and writes."""
+    contents = []
+    for site, data in enumerate(files):
+        try:
+            contents.append(journals.content_of(read_as(scenario, data)))
+        except journals.Wrong as wrong:
+            return ends.NO_JOURNAL, UNFIT.format(path_in(folder, site), wrong.cause, wrong.place), ""
+    text, status = audit(scenario, contents)
+    return status, "", text
+
+
+def of_program(program, scenario, folder):
+    """How the program's `audit` ends over the files of a folder: the same."""
+    asked = subprocess.run([program, "audit", "--disks", folder], input=json.dumps(scenario), capture_output=True,
+                           text=True)
+    said = asked.stderr.removesuffix("\n")
+    return asked.returncode, said.removeprefix("walter: "), asked.stdout

@@ -10,6 +10,11 @@ text and the same status.
     python3 bench/model.py load --seed 7 --calls 2000 --scenario > load.json
 
 The first plays a made scenario, and writes the summary that `walter load` is to write of it. The second writes the scenario.
+
+    python3 bench/model.py audit --disks DIR examples/slow_commit.json
+
+audits the journals that a run of the scenario left in the folder DIR, and writes what `walter audit` is to write of
+them, with the same status: 0 where they tell a legal history, and 8 where they don't.
 """
 
 import json
@@ -17,6 +22,7 @@ import os
 import sys
 from collections import Counter
 
+import audit
 import loads
 import model
 import readings
@@ -85,6 +91,22 @@ def load(words):
         written(loads.summary(given.seed, given.calls, model.played(made, Counter())), "summary")
 
 
+def audit_folder(words):
+    parser = ends.Parser(audit.__doc__, prog="model.py audit")
+    parser.add_argument("file", nargs="?", help="a scenario, as JSON or as a script; standard input without it")
+    parser.add_argument("--disks", required=True, metavar="DIR", help="the folder with the journals of its sites")
+    given = parser.parse_args(words)
+    made = scenario_of(taken(given.file), ends.name_of(given.file))
+    status, said, text = audit.ended(made, given.disks, audit.files_in(given.disks, made["sites"]))
+    if said:
+        raise ends.End(status, said)
+    written(text, "finding")
+    return status
+
+
+COMMANDS = {"load": load, "audit": audit_folder}
+
+
 def main():
-    words = sys.argv[1:]
-    return load(words[1:]) if words[:1] == ["load"] else play(words)
+    command, *words = sys.argv[1:] or [None]
+    return COMMANDS[command](words) if command in COMMANDS else play(sys.argv[1:])

@@ -10,6 +10,11 @@ chose, what restarts did with areas, what folds would have met, and each limit, 
 of these were not met. Then some made scenarios of the command `load` are played, and their summaries compared. Ends with status 1
 where a scenario differs, and prints its seed and the first line that does.
 
+Each scenario is played once more, over file disks, and its journals are audited: they are to tell a legal history, by
+the program and by the plain audit of audit.py, in the same text. So are the same journals with one record changed
+(changes.py), of which it is said how many of each kind were No, and for which reasons. Two areas have at most 256 KiB
+there. --audits says how many changed ones there are of each scenario; by 0 nothing is audited.
+
 With --unproved the program is run without any proof, by `rt try`, on all scenarios together but those of `load`, and what this says
 of each that differs is printed; with --model the model plays alone, and nothing is compared.
 """
@@ -24,7 +29,11 @@ import sys
 import tempfile
 from collections import Counter
 
+import audit
+import changes
+import ends
 import folds
+import journals
 import loads
 import model
 from generator import scenario
@@ -72,6 +81,10 @@ AREAS = ["load fails", "pack into A", "pack into B", "pack fails before the swit
 FORMATS = [f"upgrade {outcome}" for outcome in ("taken", "passed", "failed", "full", "down")]
 FORMATS += [f"Format {how}" for how in ("stable", "in flight", "found")]
 FORMATS += [f"sites {number}" for number in range(9, 17)]
+# What is audited stands in memory for a moment. Of two areas half of the capacity is written before a site begins, so
+# they have no more than this.
+FAST = "/dev/shm" if os.path.isdir("/dev/shm") else None
+MOST_OF_AREAS = 1 << 18
 # How many calls a made scenario may have.
 CALLS = [0, 1, 2, 10, 100, 500, 1000, 2000, 4000]
 
@@ -156,6 +169,69 @@ def compare(words, name, source, expected):
         sys.exit(f"{name}, status {played.returncode}\nplayed: {line[:300]}\nmodel:  {wanted[:300]}")
 
 
+def knows_audits(program):
+    """Whether a program has the command `audit`: its disks in memory have no journals."""
+    asked = subprocess.run([program, "audit"], input=json.dumps(EMPTY), capture_output=True, text=True)
+    return asked.returncode == ends.NO_JOURNAL
+
+
+class Audits:
+    """Audits of what plays leave and of changes of it: by the program, or by the plain audit where there is none."""
+
+    def __init__(self, program, changed):
+        self.program, self.changed = program, changed
+        self.left, self.met = 0, Counter()
+
+    def of(self, name, made, run):
+        """Audits what a play of the scenario leaves, whose run by the model this is, and so many changes of it."""
+        if self.program and made.get("areas", 1) == 2:
+            made = {**made, "capacity": min(made.get("capacity", MOST_OF_AREAS), MOST_OF_AREAS)}
+        with tempfile.TemporaryDirectory(dir=FAST) as folder:
+            files = self.played(name, folder, made, run)
+            self.left += 1
+            self.audit(f"{name}, what it left", folder, made, files, (ends.DONE,))
+            contents = [journals.content_of(audit.read_as(made, data)) for data in files]
+            for number in range(self.changed):
+                found = changes.changed(random.Random(f"{name}, change {number}"), contents)
+                if found:
+                    kind, other = found
+                    files = [changes.bytes_of(made, content) for content in other]
+                    self.met[kind, self.audit(f"{name}, change {number}, {kind}", folder, made, files)] += 1
+
+    def played(self, name, folder, made, run):
+        """The journals that a play leaves: by the program no disk is armed, and by the model each settles."""
+        if not self.program:
+            for site in run.sites:
+                site.disk.settle()
+            return [bytes(site.disk.reads) for site in run.sites]
+        ended = subprocess.run([self.program, "play", "--disks", folder], input=json.dumps(made), capture_output=True,
+                               text=True)
+        if ended.returncode != ends.DONE:
+            sys.exit(f"{name}, over file disks: status {ended.returncode}, {ended.stderr}")
+        return audit.files_in(folder, made["sites"])
+
+    def audit(self, name, folder, made, files, statuses=(ends.DONE, ends.NOT_LEGAL)):
+        """Audits these journals, which come to one of these statuses. Gives the reason, or yes."""
+        wanted = status, _, text = audit.ended(made, folder, files)
+        came = wanted
+        if self.program:
+            audit.write_files(folder, files)
+            came = audit.of_program(self.program, made, folder)
+        if came != wanted or status not in statuses:
+            line, other = first_difference(came[2], text)
+            sys.exit(f"{name}\naudit: status {came[0]}, {line[:300]}{came[1]}\n"
+                     f"model: status {status}, {other[:300]}{wanted[1]}")
+        return text.split()[2] if status == ends.NOT_LEGAL else "yes"
+
+    def lines(self):
+        yield f"audits: {self.left:,} runs left journals of a legal history"
+        for kind in changes.CHANGES:
+            counts = {reason: self.met[kind, reason] for reason in audit.REASONS if self.met[kind, reason]}
+            reasons = ", ".join(f"{reason} {count:,}" for reason, count in counts.items())
+            yield (f"with {kind}: {self.met[kind, 'yes']:,} yes, {sum(counts.values()):,} no"
+                   + (f" ({reasons})" if counts else ""))
+
+
 def loads_from(first, count):
     """So many made scenarios, each as its seed and its calls."""
     rng = random.Random(first)
@@ -196,6 +272,8 @@ def main():
     parser.add_argument("--loads", type=int, default=12, metavar="N", help="how many loads are played behind them; 12 without "
                         "it")
     parser.add_argument("--several", action="store_true", help="play those of two sites and more alone, and count only these")
+    parser.add_argument("--audits", type=int, default=1, metavar="N", help="how many changed journals of each scenario "
+                        "are audited beside those that it left; 1 without it, and by 0 no audit is made")
     parser.add_argument("--one-area", action="store_true", help="make scenarios without the key `areas`")
     parser.add_argument("--seed", type=int, default=0, metavar="N", help="the seed of the first; 0 without it")
     parser.add_argument("--program", metavar="PATH", help="the program; without it that of this repository, which "
@@ -210,7 +288,12 @@ def main():
         if not known:
             print(NO_KEY.format(key))
     areas = areas and not words.one_area
-    met = Counter()
+    met, audits = Counter(), None
+    if words.scenarios and words.audits and not words.unproved:
+        audits = Audits(program, words.audits)
+    if audits and program and not knows_audits(program):
+        print("the program knows no audit: no journals are audited")
+        audits = None
     with tempfile.TemporaryDirectory() as folder:
         for seed, made in made_from(words.seed, words.scenarios, words.several, areas, room, formats):
             run = folds.played(made, met)
@@ -220,6 +303,8 @@ def main():
                 write_file(os.path.join(folder, f"seed_{seed}"), json.dumps(made))
                 write_file(os.path.join(folder, f"seed_{seed}.stdout"), run.text())
             count_met(run, met)
+            if audits:
+                audits.of(f"seed {seed}", made, run)
         if words.unproved:
             compare_unproved(folder, words.scenarios)
     made_loads = [] if words.unproved else loads_from(words.seed, words.loads)
@@ -228,6 +313,8 @@ def main():
     counted = ALL + (AREAS if areas else []) + (FORMATS if formats else [])
     print("met: " + "; ".join(f"{kind}: {met[kind]:,}" for kind in counted if met[kind]))
     print("not met: " + ("; ".join(kind for kind in counted if not met[kind]) or "none"))
+    for line in audits.lines() if audits else ():
+        print(line)
     how = "played by the model" if words.model else "the same"
     which = "scenarios of several sites" if words.several else "scenarios"
     and_loads = f" and {len(made_loads)} loads" if made_loads else ""

@@ -28,6 +28,12 @@ while it runs all that is free is given back, so that what reading has let go of
 to grow by 1.5 times as much for each event at most. That has the journal, the rows, the list of what is committed and the places of
 the replies. Of a program that keeps its tables while it writes, this says less than it is.
 
+With --audit it measures what an audit takes: of sixteen sites with 5,000 records each, with 10,000 and with 20,000, in
+journals that long_journals.py makes, with slow commits. It prints the least processor time of some audits, and that for
+each record with its ratio to the first's; and beside it the time of journals of which the last record of all can't be
+read: of these all is read and replayed too, up to that record, and then the audit ends. The whole is to take at most
+three times that.
+
 With --example it plays nothing, and writes one of the two big examples. Both are made so, and the scripts beside them:
 
     for run in ten_thousand_calls five_thousand_transactions; do
@@ -49,13 +55,17 @@ import time
 from collections import Counter, namedtuple
 from string import ascii_lowercase
 
+import audit
+import changes
+import ends
 import journals
 import kinds
+import long_journals
 import model
-from compare import built
+from compare import FAST, built
 from generator import ABORT as ABORT_IT, COMMIT as COMMIT_IT
 from loads import load_words
-from measured import events_of, measured, measured_of, microseconds
+from measured import events_of, fault_of, measured, measured_of, microseconds, run_of
 from model import WINDOW
 from pieces import taken_by
 
@@ -63,9 +73,11 @@ CLIENTS = 10
 SITES = 3
 MOST_BYTES, MOST_ENTRIES = 16_777_216, 100_000
 START, COMMIT = "0000000101", "0000000108"
-LOADS, SEED, RUNS = (2_000, 6_000, 20_000), 7, 5
+LOADS, SEED, RUNS, AUDITS = (2_000, 6_000, 20_000), 7, 5, 3
 RESTARTS, COMMITS = 1_000, (10, 2_000)
 EVENTS, MOST_TIMES = 90_000, 1.5
+# How many records each of sixteen journals has, and of what is read at most an audit may take.
+RECORDS, MOST_OF_READING = (5_000, 10_000, 20_000), 3
 # How many bytes tell where the reply of an entry lies.
 PLACE = 8
 # How many bytes of a journal the records take that a commit of one write of one byte makes, and a restart.
@@ -380,6 +392,46 @@ def memory_lines(command, events):
            f"{'within' if times <= MOST_TIMES else 'above'} {MOST_TIMES}")
 
 
+# Audits
+
+
+class Audited:
+    """What audits of journals take that have so many records each: the whole, and what ends at the very last record."""
+
+    def __init__(self, program, folder, records):
+        made, self.records = long_journals.contents(records), records * long_journals.SITES
+        with open(os.path.join(folder, "scenario"), "w+", encoding="utf-8") as source:
+            source.write(long_journals.text())
+            words = [program, "audit", "--disks", folder]
+            self.whole = self.least(words, source, folder, made, ends.DONE)
+            self.read = self.least(words, source, folder, long_journals.unreadable_at_the_end(made), ends.NOT_LEGAL)
+
+    def least(self, words, source, folder, contents, status):
+        audit.write_files(folder, [changes.bytes_of({}, content) for content in contents])
+        seconds = []
+        for _ in range(AUDITS):
+            source.seek(0)
+            run = run_of(words, source)
+            if run.status != status:
+                sys.exit(fault_of(words, run))
+            seconds.append(run.seconds)
+        return min(seconds)
+
+
+def audit_lines(program):
+    first = None
+    for records in RECORDS:
+        with tempfile.TemporaryDirectory(dir=FAST) as folder:
+            took = Audited(program, folder, records)
+        first = first or took.whole / took.records
+        ratio = f"; ratio {took.whole / took.records / first:.2f}" if records != RECORDS[0] else ""
+        each, times = microseconds(took.whole, took.records, "a record"), took.whole / took.read
+        yield (f"{long_journals.SITES} sites with {records:,} records each: {took.whole:.3f} s, {each}{ratio}; "
+               f"read and replayed alone {took.read:.3f} s, "
+               f"of which the audit takes {times:.2f} times: {'within' if times <= MOST_OF_READING else 'above'} "
+               f"{MOST_OF_READING}")
+
+
 # The command
 
 
@@ -403,6 +455,7 @@ def main():
     parser.add_argument("--count", type=int, default=RESTARTS, metavar="N", help=f"how often the site restarts; {RESTARTS:,} "
                         "without it")
     parser.add_argument("--memory", action="store_true", help="measure only how much memory a run takes beside its trail")
+    parser.add_argument("--audit", action="store_true", help="measure only what audits of long journals take")
     parser.add_argument("--model", action="store_true", help="have the plain model play the restarts")
     parser.add_argument("--example", choices=EXAMPLES, help="write this example, and play nothing")
     words = parser.parse_args()
@@ -411,13 +464,17 @@ def main():
         return
     if words.model and not words.restarts or words.count < 2:
         parser.error("--model goes with --restarts, and a site restarts twice at least")
-    if words.memory and (words.loads or words.restarts):
-        parser.error("--memory goes without --loads and --restarts")
+    if words.loads + words.restarts + words.memory + words.audit > 1:
+        parser.error("of --loads, --restarts, --memory and --audit there is one alone")
     if words.memory:
         for line in memory_lines(shlex.split(words.program) if words.program else [built()], EVENTS):
             print(line, flush=True)
         return
     program = None if words.model else words.program or built()
+    if words.audit:
+        for line in audit_lines(os.path.abspath(program)):
+            print(line, flush=True)
+        return
     if not words.loads and not words.restarts:
         play_growing(program)
     for line in restart_lines(player_of(program), words.count) if words.restarts else load_lines(program):

@@ -10,7 +10,8 @@ sends: hundreds of clients stand in one scenario, and each has turns for all its
 file of a journal for --disks, of one area or of two and of either format, with records of both, whatever format the scenario asks
 for; and of up to sixteen sites. What the model refuses is to be refused by the same name; what it accepts is to come to the same
 report and trace, and over files to the same bytes in the end. A text that asks for a journal of two areas above 16 MiB is left out:
-it takes as much memory.
+it takes as much memory. Beside them as many folders are audited as files are tried: of any bytes, and of the journals
+that runs left, changed by one record (changes.py). Each audit is to come to what the plain one of audit.py says.
 
 Then the shapes: scenarios of 16 MiB, or of one byte more, each made of one piece again and again. Each has its status and its line
 told by hand, or a small scenario whose report is to come. Each is to end within 10 s of processor time and 500 MB.
@@ -32,11 +33,15 @@ import tempfile
 from collections import Counter, namedtuple
 from functools import partial
 
+import audit
+import changes
+import ends
 import generator
 import journals
 import model
 import readings
-from compare import built, first_difference
+from audit import files_in, write_files
+from compare import FAST, built, first_difference
 from generator import COMMIT as COMMIT_IT, START as START_IT, frames
 from measured import run_of
 from spelled import *
@@ -334,10 +339,8 @@ def cause_of(content, capacity, sites):
         return None
     try:
         holding = journals.read(content, capacity, sites)
-    except journals.Foreign:
-        return "it has no journal", 0
-    except journals.Damaged as damaged:
-        return f"its journal is damaged, since it claims a length of {damaged.length}", damaged.place
+    except journals.Wrong as wrong:
+        return wrong.cause, wrong.place
     return ("its journal has records", 8) if journals.bodies_of(holding) else None
 
 
@@ -349,20 +352,6 @@ def journal_of(rng, bases):
     if how < 0.3:
         return bases[0] + changed(rng, bases, PIECES_OF_JOURNAL)
     return changed(rng, bases, PIECES_OF_JOURNAL)
-
-
-def write_files(folder, contents):
-    for site, content in enumerate(contents):
-        with open(os.path.join(folder, f"site-{site}.journal"), "wb") as file:
-            file.write(content)
-
-
-def files_in(folder, sites):
-    found = []
-    for site in range(sites):
-        with open(os.path.join(folder, f"site-{site}.journal"), "rb") as file:
-            found.append(file.read())
-    return found
 
 
 def try_journals(program, bases, seed, met):
@@ -387,7 +376,7 @@ def try_journals(program, bases, seed, met):
 def wrong_with_files(program, made, contents, told, left):
     """What is wrong with a play over these files, which is to leave others."""
     wanted, first, causes = told
-    with tempfile.TemporaryDirectory(dir="/dev/shm" if os.path.isdir("/dev/shm") else None) as folder:
+    with tempfile.TemporaryDirectory(dir=FAST) as folder:
         write_files(folder, contents)
         came = came_of(program, ["play", "--trace", "--disks", folder], json.dumps(made).encode())
         wrong = differs(came, wanted or Come(UNFIT_DISK, UNFIT.format(folder, first, *causes[first]), ""))
@@ -399,6 +388,47 @@ def wrong_with_files(program, made, contents, told, left):
     return None
 
 
+# ---- audits
+
+
+def audit_bases():
+    """Scenarios, each with the contents that its run left on the disks."""
+    bases = []
+    for made in (generator.scenario(seed) for seed in range(GENERATED)):
+        sites = model.played(made, Counter()).sites
+        for site in sites:
+            site.disk.settle()
+        bases.append((made, [journals.content_of(audit.read_as(made, bytes(site.disk.reads))) for site in sites]))
+    return bases
+
+
+def folder_of(rng, bases, run_bases):
+    """A scenario and the files of its sites: of any bytes, or of a run with one record changed."""
+    if rng.random() < 0.5:
+        capacity, sites = rng.choice(list(bases))
+        files = [journal_of(rng, bases[capacity, sites]) if rng.random() < 0.3 else rng.choice(bases[capacity, sites])
+                 for _ in range(sites)]
+        return {**played_over(sites), "capacity": capacity}, files
+    made, contents = rng.choice(run_bases)
+    _, other = changes.changed(rng, contents) or (None, contents)
+    return made, [changes.bytes_of(made, content) for content in other]
+
+
+def try_audit(program, bases, run_bases, seed, met):
+    made, files = folder_of(random.Random(f"audit {seed}"), bases, run_bases)
+    with tempfile.TemporaryDirectory(dir=FAST) as folder:
+        wanted = status, _, text = audit.ended(made, folder, files)
+        # The line says yes, or no and the reason.
+        said = text.split()[1 + (status == ends.NOT_LEGAL)] if text else "no journal, or a damaged one"
+        met[said] += 1
+        if not program:
+            return None
+        write_files(folder, files)
+        came = audit.of_program(program, made, folder)
+        is_left = files_in(folder, made["sites"]) == files
+    return differs(Come(*came), Come(*wanted)) or (None if is_left else "a file has other bytes behind the audit")
+
+
 # ---- all inputs
 
 
@@ -406,11 +436,12 @@ def tried(program, count, seed):
     """Tries so many inputs of each kind. Gives how many are wrong, with a line for each."""
     wrong = 0
     share = count // SHARE
-    text_bases, bases = texts(), journal_bases()
+    text_bases, bases, run_bases = texts(), journal_bases(), audit_bases()
     kinds = [
         ("clients' bytes", batches(count - share * (TEXTS + JOURNALS)), partial(try_requests, program)),
         ("texts of scenarios", ((), share * TEXTS), lambda number, met: try_text(program, text_bases, number, met)),
         ("journals", ((), share * JOURNALS), lambda number, met: try_journals(program, bases, number, met)),
+        ("audits", ((), share * JOURNALS), lambda number, met: try_audit(program, bases, run_bases, number, met)),
     ]
     for name, (sizes, number), play in kinds:
         met, lines = Counter(), []

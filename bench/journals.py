@@ -26,6 +26,8 @@ HEADER_SIZE, MOST_OF_FIRST = 8, 8
 SWITCH = GATE = 8
 LEAST, LEAST_OF_TWO = 9, 47
 MOST_BODY, MOST_TOLD = 65536, (1 << 32) - 1
+# The body of a record Format.
+FORMAT = b"\x0a\2"
 # The first bytes of the records that have a transaction, each with the place behind its snapshot: in a Got, the second of them,
 # a site stands before.
 BEHIND_SNAPSHOT = {b"\2": 94, b"\3": 95, b"\7": 94}
@@ -39,6 +41,8 @@ Record = namedtuple("Record", "gate body")
 # What a journal holds: the format of its header, the live area, what is packed in it, its records, and the place of the closed
 # gate behind them.
 Holding = namedtuple("Holding", "form area entries records gate")
+# What counts of that: the format of the header, and the bodies.
+Content = namedtuple("Content", "form bodies")
 
 
 class Wrong(Exception):
@@ -52,6 +56,9 @@ class Wrong(Exception):
 class Foreign(Wrong):
     """Bytes that are no journal."""
 
+    # What the program says of them.
+    cause = "it has no journal"
+
     def __init__(self, text):
         super().__init__(0, f"foreign at 0: {text}")
 
@@ -62,6 +69,7 @@ class Damaged(Wrong):
     def __init__(self, place, length, text):
         super().__init__(place, f"damaged at {place}: {text}")
         self.length = length
+        self.cause = f"its journal is damaged, since it claims a length of {length}"
 
 
 # ---- layouts
@@ -216,3 +224,15 @@ def read(data, capacity, sites):
 def bodies_of(holding):
     """The content: the bodies that are packed, and those behind open gates."""
     return [one.body for one in [*holding.entries, *holding.records]]
+
+
+def content_of(holding):
+    return Content(holding.form, bodies_of(holding))
+
+
+def forms_of(content):
+    """The format in force at the place of each body, and behind the last one."""
+    forms = [content.form]
+    for body in content.bodies:
+        forms.append(2 if body == FORMAT else forms[-1])
+    return forms

@@ -14,6 +14,9 @@ With --areas the made scenario has journals of two areas, and behind its transac
 kills come amid a pack. With --upgrades each of its sites is upgraded amid its commits: so some kills come before the record Format,
 and some behind it. Both may be asked for.
 
+The journals that are left are audited, where none of them is empty, by the program and by the plain audit of audit.py:
+both are to say that they tell a legal history.
+
 Says how many files were met with how many records, and how many of them have a record Format. Ends with status 1 where one is wrong:
 it has a line with what is wrong.
 """
@@ -29,8 +32,10 @@ import tempfile
 import time
 from collections import Counter
 
+import audit
+import ends
 import journals
-from compare import built
+from compare import built, knows_audits
 from growth import Spread
 from spelled import FORMAT, record_of
 
@@ -55,7 +60,7 @@ class Scenario:
 
     def __init__(self, text):
         told = json.loads(text)
-        self.text, self.sites = text, told["sites"]
+        self.made, self.text, self.sites = told, text, told["sites"]
         self.capacity = told.get("capacity", CAPACITY)
 
     def bodies(self, folder, site):
@@ -107,16 +112,31 @@ def wrong_with(scenario, folder, whole, is_run, met):
     return None
 
 
+def wrong_with_audit(program, scenario, folder, met):
+    """What is wrong with the audit of what was left, or None. Counts what is met."""
+    files = audit.files_in(folder, scenario.sites)
+    wanted = status, _, text = audit.ended(scenario.made, folder, files)
+    came = audit.of_program(program, scenario.made, folder)
+    if came != wanted:
+        return f"the audit ends with status {came[0]}, {came[1] or came[2][:80]!r}, and the plain one with {status}"
+    if status == ends.NOT_LEGAL:
+        return text.rstrip("\n")
+    met["audited" if status == ends.DONE else "not audited"] += 1
+    return None
+
+
 def tried(program, scenario, is_run, kills, seed):
     """What came of all kills: how many found the program at work, what was met, and the lines of what is wrong."""
     plays = [play_whole(program, scenario, is_run) for _ in range(WHOLE_PLAYS)]
     seconds, whole = min(seconds for seconds, _ in plays), plays[0][1]
-    rng, met, killed, lines = random.Random(seed), Counter(), 0, []
+    rng, met, killed, lines, is_audited = random.Random(seed), Counter(), 0, [], knows_audits(program)
     for number in range(kills):
         moment = rng.uniform(0, seconds)
         with tempfile.TemporaryDirectory() as folder:
             killed += kill_within(program, scenario, is_run, folder, moment)
             wrong = wrong_with(scenario, folder, whole, is_run, met)
+            if is_audited and not wrong:
+                wrong = wrong_with_audit(program, scenario, folder, met)
         if wrong:
             lines.append(f"kill {number}, {moment:.4f} s: {wrong}")
     return killed, met, lines
@@ -160,6 +180,8 @@ def main():
     formats = f", {met['upgraded']} with a record Format" if met["upgraded"] else ""
     print(f"{words.kills} plays, {killed} of them killed at work; files: {met['none']} with nothing, {met['a front']} with a front "
           f"of the records, {met['whole']} with all{formats}; {len(lines)} wrong")
+    if met["audited"] or met["not audited"]:
+        print(f"audits: {met['audited']} yes; {met['not audited']} folders have a file with nothing")
     print("\n".join(lines), end="\n" if lines else "")
     sys.exit(1 if lines else 0)
 

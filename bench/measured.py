@@ -60,5 +60,5 @@ def events_of(text):
     return sum(map(int, EVENTS.findall(text)))
 
 
-def microseconds(seconds, events):
-    return f"{seconds * 1_000_000 / events:.2f} us an event"
+def microseconds(seconds, events, of="an event"):
+    return f"{seconds * 1_000_000 / events:.2f} us {of}"

@@ -8,13 +8,18 @@ part of that text is looked for too, and the texts of help and version are asked
 """
 
 import argparse
+import json
 import os
 import subprocess
 import sys
 import tempfile
+from collections import Counter
 from concurrent.futures import ThreadPoolExecutor
 from functools import partial
 
+import audit
+import journals
+import model
 import readings
 
 TOP = os.path.dirname(os.path.dirname(os.path.abspath(__file__)))
@@ -25,6 +30,8 @@ NO_READING = "the scenario has no reading: "
 SITES = readings.TEXTS["sites"]
 CLOSED = None
 MODELS_AT_ONCE = 6
+# How many seconds a case may take, on a machine that may have much else to do.
+LONGEST = 600
 
 
 def file_of(*parts):
@@ -115,6 +122,12 @@ CASES_OF_RUN += [
      "site 0 up epoch 1 events 2 records 1 got 0 committed 0 log -\n"),
 ]
 
+# `audit` refuses the same. Its disks in memory have no journals, so it writes nothing of any.
+CASES_OF_AUDIT = [(f"audit: {name}", ["audit", *words[1:]], *rest) for name, words, *rest in CASES
+                  if words[:1] == ["play"] and rest[2] not in (0, 4)]
+CASES_OF_AUDIT += [("an audit of disks in memory", ["audit"], RUN, None, 7,
+                    "site 0 cannot begin with its disk: it has no journal (at place 0)", "")]
+
 # What may be done to the one file of a folder before the stored run's second play over it, and what is then said of that file.
 USED = "its journal has records (at place 8)"
 BYTES = {
@@ -141,11 +154,14 @@ TEXTS = [
     ("load --seed 7", 1, "--calls <M>", ""),
     ("load --seed 7 --calls 20001", 1, "'20001'", ""),
     ("load --seed -1 --calls 1", 1, "'-1'", ""),
+    ("audit --trace", 1, "'--trace'", ""),
+    ("audit --disks a --disks b", 1, "--disks <DIR>", ""),
     ("--version", 0, "", "walter "),
     ("--help", 0, "", "Plays or runs scenarios"),
     ("play --help", 0, "", "Plays the scenario"),
     ("run --help", 0, "", "Runs the scenario"),
     ("load --help", 0, "", "Makes a scenario"),
+    ("audit --help", 0, "", "Says on standard output whether"),
 ]
 
 
@@ -159,7 +175,7 @@ def run(program, words, stdin, sink):
             stdout=out if sink else subprocess.PIPE,
             stderr=subprocess.PIPE,
             encoding="utf-8",
-            timeout=60,
+            timeout=LONGEST,
         )
     return ended.returncode, ended.stderr, ended.stdout or ""
 
@@ -200,6 +216,13 @@ def folder_with(top, name, content):
     return folder
 
 
+def found_of_run():
+    """What an audit finds of what the stored run leaves."""
+    made = json.loads(RUN)
+    files = (bytes(site.disk.reads) for site in model.played(made, Counter()).sites)
+    return audit.audit(made, [journals.content_of(audit.read_as(made, data)) for data in files])[0]
+
+
 def cases_over_files(top):
     """The cases of the stored run over file disks, in folders that are made here; and of nine sites over a file of the first format."""
     for name, (content, said) in BYTES.items():
@@ -208,6 +231,13 @@ def cases_over_files(top):
         if content is None:
             yield ("an empty folder", words, RUN, None, 0, "", REPORT)
         yield (f"a file that has {name}", words, RUN, None, 7, UNFIT.format(folder, said), "")
+        told = (0, "", "audit yes sites 1 lines 0\n") if said == USED else (7, UNFIT.format(folder, said), "")
+        if content is None:
+            yield (f"an audit of {name}", ["audit", "--disks", folder], RUN, None, 0, "", found_of_run())
+        else:
+            yield (f"an audit of {name}", ["audit", "--disks", folder], scenario(), None, *told)
+    folder = folder_with(top, "a later epoch", b"WALTERJ1\1" + b"\0\0\0\5" + b"\1\0\0\0\2" + b"\0")
+    yield ("an audit of a later epoch", ["audit", "--disks", folder], scenario(), None, 8, "", "audit no unreadable 0.0 0.0\n")
     folder, said = folder_with(top, "nine sites", b"WALTERJ1\0"), BYTES["no journal"][1]
     yield ("nine sites over the first format", ["play", "--disks", folder], scenario("9"), None, 7, UNFIT.format(folder, said), "")
     for name, folder, said in [("no folder", os.path.join(top, "none"), NO_FOLDER), ("a file for a folder", os.devnull, NO_FOLDER),
@@ -241,7 +271,7 @@ def main():
     program = [os.path.abspath(given.program or os.path.join(TOP, "walter"))]
     # A case may have to prove the program, so its cases come one after another.
     play = partial(program_run, program)
-    differ = differing(play, CASES + CASES_OF_RUN)
+    differ = differing(play, CASES + CASES_OF_RUN + CASES_OF_AUDIT)
     with tempfile.TemporaryDirectory() as top:
         differ += differing(play, list(cases_over_files(top)))
     sys.exit(differ + (differing_texts(program) if given.program else 0) > 0)

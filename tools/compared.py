@@ -27,9 +27,10 @@ def differing(one, other):
 
 
 def svg(runs, first=None, last=None):
-    """Both pictures in one."""
+    """Both pictures in one, whose first rows stand at one height, however long the titles are."""
     both = [pictures.Picture(run, first, last, marked=marked) for run, marked in zip(runs, differing(*runs))]
     at = both[0].width + BETWEEN
-    width, height = at + both[1].width, max(one.height for one in both)
-    parts = both[0].svg() + both[1].svg(x=at)
+    tops = [max(one.heads for one in both) - one.heads for one in both]
+    width, height = at + both[1].width, max(top + one.height for top, one in zip(tops, both))
+    parts = both[0].svg(y=tops[0]) + both[1].svg(x=at, y=tops[1])
     return f'<svg xmlns="http://www.w3.org/2000/svg" width="{width:.0f}" height="{height:.0f}">\n{parts}</svg>\n'

@@ -7,7 +7,8 @@ import signal
 import sys
 
 DONE, NOT_AS_ASKED, NO_SCENARIO, NOT_READ, NOT_WRITTEN, NO_MEMORY = range(6)
-NO_PROGRAM = 9
+# What the disks have is no journal, or a damaged one; an audit says no; and the program isn't there.
+NO_JOURNAL, NOT_LEGAL, NO_PROGRAM = 7, 8, 9
 
 
 class End(Exception):

@@ -6,6 +6,8 @@ import struct
 from collections import namedtuple
 
 MOST_BODY, MOST_ENTRIES, MOST_UPDATES, MOST_IDS, MOST_SITES = 65536, 100_000, 256, 4095, 16
+# How many bytes a value may have; and a transaction in the first format, with those before its updates.
+MOST_VALUE, MOST_OF_TRANSACTION, BEFORE_UPDATES = 4096, 60_000, 87
 # The formats of records, and the most sites that a journal of the first one serves.
 FORMS, MOST_OF_FIRST = (1, 2), 8
 LOAD_SITES, MOST_CALLS = 3, 20_000
@@ -112,10 +114,12 @@ def vector_of(cursor, sites, form):
 
 def transaction_of(cursor, sites, form):
     name, slow, vector = cursor.take("BIQ"), cursor.number("Q"), vector_of(cursor, sites, form)
-    require(name[0] < sites)
     count = cursor.number("H")
     require(1 <= count <= MOST_UPDATES)
-    return Transaction(name, slow, vector, tuple(update_of(cursor) for _ in range(count)))
+    begins = cursor.at
+    updates = tuple(update_of(cursor) for _ in range(count))
+    require(BEFORE_UPDATES + cursor.at - begins <= MOST_OF_TRANSACTION)
+    return Transaction(name, slow, vector, updates)
 
 
 def update_of(cursor):
@@ -123,7 +127,9 @@ def update_of(cursor):
     require(kind in (1, 2, 3))
     oid = cursor.take("IQ")
     if kind == 1:
-        return "write", oid, cursor.block()
+        value = cursor.block()
+        require(len(value) <= MOST_VALUE)
+        return "write", oid, value
     return "setadd" if kind == 2 else "setdel", oid, cursor.number("Q")
 
 
@@ -151,11 +157,18 @@ def spelled_in(forms, data, sites):
 
 
 def record_in(form, data, sites):
-    """The record that these bytes spell in a format."""
+    """The record that these bytes spell in a format, of a site among so many: it names no other."""
+    record = record_spelled(form, data, sites)
+    require(record.site is None or record.site < sites)
+    require(record.transaction is None or record.transaction.name[0] < sites)
+    return record
+
+
+def record_spelled(form, data, sites):
+    """The record that these bytes spell in a format, whichever sites it names."""
     cursor = Cursor(data)
     record = record_at(cursor, cursor.number("B"), sites, form)
     cursor.end()
-    require(record.site is None or record.site < sites)
     return record
 
 

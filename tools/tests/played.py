@@ -89,6 +89,14 @@ def by_model(text):
     return model.played(json.loads(text), Counter())
 
 
+def disks_of(made):
+    """The bytes on the disk of each site behind the model's run of a scenario, once the disk has settled."""
+    sites = model.played(made, Counter()).sites
+    for site in sites:
+        site.disk.settle()
+    return [bytes(site.disk.reads) for site in sites]
+
+
 @functools.lru_cache(maxsize=None)
 def random_run(seed):
     """The model's run of a random scenario, and what the tools read of it."""

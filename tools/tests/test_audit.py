@@ -1,16 +1,21 @@
 """The plain audit of bench/: each reason by journals made by hand, and yes of what runs leave."""
 
+import functools
+import json
+import os
 import random
 import unittest
 from collections import Counter
 
-import played
+from played import InFolder, disks_of, run_bench
 import audit
+import changes
+import command
 import generator
 import journals
 import model
-import readings
-from spelled import *
+from ends import DONE, NO_JOURNAL, NOT_LEGAL, End
+from spelled import BOOT, FORMAT, GOT, OWN, SEEN, SET_ADD, WRITE, record_of
 
 TWO = {"sites": 2, "f": 0, "containers": [[1, "regular", 0], [3, "cset", 1]]}
 THREE = {**TWO, "sites": 3}
@@ -31,20 +36,15 @@ def boot(*records):
 
 def said(made, *sites, form=2):
     """What the audit says of these records of each site, all spelled in one format."""
-    contents = [audit.Content(form, [record_of(record, form) for record in records]) for records in sites]
+    contents = [journals.Content(form, [record_of(record, form) for record in records]) for records in sites]
     return audit.audit(made, contents)[0]
 
 
+@functools.lru_cache(maxsize=None)
 def left_by(seed):
-    """A scenario, and what its run leaves on the disks, each settled."""
+    """A scenario, and what its run leaves on the disks."""
     made = generator.scenario(seed)
-    contents = []
-    for site in model.played(made, Counter()).sites:
-        site.disk.settle()
-        capacity = made.get("capacity", readings.CAPACITY)
-        holding = journals.read(bytes(site.disk.reads), capacity, made["sites"])
-        contents.append(audit.Content(holding.form, journals.bodies_of(holding)))
-    return made, contents
+    return made, [journals.content_of(audit.read_as(made, data)) for data in disks_of(made)]
 
 
 class Reasons(unittest.TestCase):
@@ -113,20 +113,47 @@ class Runs(unittest.TestCase):
         for seed in range(60):
             made, contents = left_by(seed)
             text, status = audit.audit(made, contents)
-            self.assertEqual(status, 0, (seed, text))
+            self.assertEqual(status, DONE, (seed, text))
 
     def test_some_runs_with_a_record_changed_are_no(self):
-        found = Counter()
-        for seed in range(60):
-            made, contents = left_by(seed)
-            rng = random.Random(seed)
-            site = rng.choice([site for site, content in enumerate(contents) if content.bodies])
-            bodies = list(contents[site].bodies)
-            del bodies[rng.randrange(len(bodies))]
-            contents[site] = contents[site]._replace(bodies=bodies)
-            found[audit.audit(made, contents)[1]] += 1
-        self.assertGreater(found[audit.NO], 0)
-        self.assertGreater(found[audit.YES], 0)
+        """Of each kind of change; and a journal that is made of contents holds these."""
+        found = {kind: Counter() for kind in changes.CHANGES}
+        for seed in range(120):
+            made, contents = left_by(seed % 60)
+            kind, other = changes.changed(random.Random(seed), contents)
+            self.assertNotEqual(other, contents, (seed, kind))
+            files = [changes.bytes_of(made, content) for content in other]
+            self.assertEqual([journals.content_of(audit.read_as(made, data)) for data in files], other)
+            found[kind][audit.audit(made, other)[1]] += 1
+        # Where the last one is left out, it hardly matters.
+        self.assertTrue(found.pop("the last left out")[DONE], found)
+        self.assertTrue(all(statuses[NOT_LEGAL] for statuses in found.values()), found)
+
+
+class Command(InFolder):
+    """The command `audit` of the plain model."""
+
+    def audit(self, made, files):
+        audit.write_files(self.folder, files)
+        return run_bench(command, "audit", self.write("run.json", json.dumps(made)), "--disks", self.folder)
+
+    def test_it_writes_what_it_finds(self):
+        made, contents = left_by(2)
+        self.assertEqual(self.audit(made, disks_of(made)), audit.audit(made, contents)[::-1])
+        later = contents[0]._replace(bodies=[record_of((BOOT, 9)), *contents[0].bodies[1:]])
+        files = [changes.bytes_of(made, content) for content in [later, *contents[1:]]]
+        self.assertEqual(self.audit(made, files), (NOT_LEGAL, "audit no unreadable 0.0 0.0\n"))
+
+    def test_the_first_file_that_is_no_journal_is_named(self):
+        empty = journals.empty(1, 100, 2)
+        damaged = "its journal is damaged, since it claims a length of 0 (at place 8)"
+        for files, site, said in [([b"", b""], 0, "it has no journal (at place 0)"),
+                                  ([empty, empty[:8] + b"\1"], 1, damaged)]:
+            with self.assertRaises(End) as end:
+                self.audit({**TWO, "clients": [], "steps": []}, files)
+            path = os.path.join(self.folder, f"site-{site}.journal")
+            self.assertEqual((end.exception.status, str(end.exception)),
+                             (NO_JOURNAL, f"{path}: {said}; move it away, or name another folder behind --disks"))
 
 
 if __name__ == "__main__":

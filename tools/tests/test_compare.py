@@ -9,7 +9,10 @@ from collections import Counter
 from unittest import mock
 
 from played import InFolder, TOP, random_scenario, run_bench
+import audit
+import changes
 import compare
+import ends
 import model
 
 MODEL = f'#!/bin/sh\nexec {sys.executable} {os.path.join(TOP, "bench", "model.py")} "$@"\n'
@@ -81,6 +84,42 @@ class Compare(InFolder):
         status, told = run_compare("--program", program, "--scenarios", "0", "--loads", "1")
         self.assertRegex(status, r"^load of seed \d+ with \d+ calls, status 0\nplayed: site 0 .* recorded .*\nmodel:  site 0 .* records ")
         self.assertEqual(told, "")
+
+
+class Audits(unittest.TestCase):
+    def audited(self, changed, program=None):
+        audits = compare.Audits(program, changed)
+        for seed in range(8):
+            made = random_scenario(seed)
+            audits.of(f"seed {seed}", made, model.played(made, Counter()))
+        return audits
+
+    def test_of_each_kind_of_change_it_is_said_what_came_of_it(self):
+        audits = self.audited(4)
+        first, *lines = audits.lines()
+        self.assertEqual(first, "audits: 8 runs left journals of a legal history")
+        for kind, line in zip(changes.CHANGES, lines, strict=True):
+            self.assertRegex(line, rf"^with {kind}: \d+ yes, \d+ no( \((\w+ [1-9]\d*(, )?)+\))?$")
+        self.assertEqual(sum(audits.met.values()), 8 * 4)
+        self.assertGreater(audits.met["a byte changed", "unreadable"], 0)
+
+    def test_another_answer_of_the_program_is_told(self):
+        text = "audit yes sites 1 lines 0"
+        played = compare.Audits(None, 0).played
+        for come, said in [((ends.DONE, "", f"{text}\n"), f"status 0, {text}"),
+                           ((ends.NO_MEMORY, "out of memory", ""), "status 5, out of memory")]:
+            with mock.patch.object(audit, "of_program", lambda *words, come=come: come), \
+                 mock.patch.object(compare.Audits, "played", lambda audits, *words: played(*words)), \
+                 self.assertRaises(SystemExit) as end:
+                self.audited(1, "program")
+            self.assertTrue(end.exception.code.startswith(f"seed 0, what it left\naudit: {said}\nmodel: status 0, "))
+
+    def test_a_program_without_audits_is_asked_for_none(self):
+        program = os.path.join(TOP, "bench", "model.py")
+        with mock.patch("subprocess.run", lambda *words, **more: mock.Mock(returncode=ends.NOT_AS_ASKED)):
+            self.assertFalse(compare.knows_audits(program))
+        with mock.patch("subprocess.run", lambda *words, **more: mock.Mock(returncode=ends.NO_JOURNAL)):
+            self.assertTrue(compare.knows_audits(program))
 
 
 if __name__ == "__main__":

@@ -2,6 +2,7 @@
 
 import json
 import os
+import re
 import subprocess
 import sys
 import tempfile
@@ -9,6 +10,7 @@ import unittest
 import xml.etree.ElementTree as xml
 
 from played import TOP, RANDOM, by_model, example_run, examples, file_text, random_run, run_tool, source_of, without_trace
+import compared
 import pictures
 import reports
 import runs
@@ -255,6 +257,13 @@ class Draw(unittest.TestCase):
             self.assertEqual(len(rows), 2 * 2)
             self.assertEqual(drawn.count("an entry that the other run hasn&#x27;t") + drawn.count("an entry that the other run hasn't"), 2)
             self.assertEqual(run_tool("draw", "--compare", slow, slow)[1].count("row differs"), 0)
+            # The first rows stand at one height, also where a title has two lines.
+            crossed = os.path.join(TOP, "examples", "crossed_slow_commits.script")
+            runs = [compared.run_of(path) for path in (slow, crossed)]
+            tops = [float(top) for top in re.findall(r'<svg [^>]* y="([0-9.]+)"', compared.svg(runs))]
+            heads = [pictures.Picture(run).heads for run in runs]
+            self.assertNotEqual(*heads)
+            self.assertEqual(tops[0] + heads[0], tops[1] + heads[1])
             for words in ["--compare", slow], ["--compare", slow, other, slow], ["--compare", slow, other, "--html"], []:
                 self.assertEqual(run_tool("draw", *words)[:2], (1, ""))
             self.assertEqual(run_tool("draw", "--compare", slow, "none.script")[0], 3)

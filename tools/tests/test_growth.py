@@ -9,11 +9,14 @@ from collections import Counter
 from unittest import mock
 
 from played import InFolder, TOP, by_model, file_text, run_bench
+import audit
 import disks
 import growth
 import journals
+import long_journals
 import model
 import scripts
+from spelled import GOT, MARKS, OWN, PREPARED, SEEN, SLOW_BEGIN
 
 # Plays by the model, and leaves the journals where it is asked to.
 PROGRAM = f"""#!{sys.executable}
@@ -24,6 +27,13 @@ run = model.played(json.load(sys.stdin), model.Counter())
 for site in run.sites if "--disks" in sys.argv else []:
     with open(os.path.join(sys.argv[-1], f"site-{{site.me}}.journal"), "wb") as file:
         file.write(site.disk.reads)
+"""
+# Audits by the plain audit.
+AUDITING = f"""#!{sys.executable}
+import sys
+sys.path.insert(0, {os.path.join(TOP, "bench")!r})
+import command
+command.ends.run(command.main)
 """
 LINE = (r"10 commits, (one area|two areas): -?\d+\.\d{3} ms a restart, in the second half -?\d+\.\d{3} ms; journal of ([\d,]+) "
         r"bytes, of which ([\d,]+) count; ([\d,]+) written")
@@ -110,6 +120,31 @@ class Restarts(InFolder):
         for words in ["--model"], ["--restarts", "--model", "--count", "1"]:
             with mock.patch("sys.stderr"):
                 self.assertEqual(run_bench(growth, *words)[0], 2)
+
+
+class Audits(InFolder):
+    def test_long_journals_tell_a_legal_history(self):
+        made, many = long_journals.scenario(), long_journals.contents(300)
+        self.assertEqual({len(content.bodies) for content in many}, {300})
+        reason, order = audit.found(made, many)
+        self.assertIsNone(reason)
+        commits = sum(item[0] == "commit" for _, item in order)
+        self.assertEqual(sum(item[0] == "arrive" for _, item in order), 15 * commits)
+        kinds = Counter(body[0] for content in many for body in content.bodies)
+        self.assertTrue(all(kinds[kind] for kind in (OWN, GOT, SEEN, PREPARED, SLOW_BEGIN, MARKS)), kinds)
+        ended = audit.found(made, long_journals.unreadable_at_the_end(many))
+        self.assertEqual(ended, ("unreadable", ((15, 299), (15, 299))))
+
+    def test_what_audits_take_is_told(self):
+        program = self.write("program", AUDITING, is_program=True)
+        with mock.patch.object(growth, "RECORDS", (40, 80)), mock.patch.object(growth, "AUDITS", 1):
+            status, told = run_bench(growth, program, "--audit")
+        self.assertIsNone(status)
+        first, second = told.splitlines()
+        measured = (r"\d\.\d{3} s, [\d.]+ us a record%s; read and replayed alone \d\.\d{3} s, of which the audit takes "
+                    r"[\d.]+ times: (within|above) 3$")
+        self.assertRegex(first, "^16 sites with 40 records each: " + measured % "")
+        self.assertRegex(second, "^16 sites with 80 records each: " + measured % r"; ratio [\d.]+")
 
 
 if __name__ == "__main__":

@@ -9,6 +9,8 @@ from collections import Counter
 from unittest import mock
 
 from played import InFolder, run_bench
+import audit
+import ends
 import hostile
 import journals
 import model
@@ -34,10 +36,11 @@ class Inputs(unittest.TestCase):
         with mock.patch.object(hostile, "GENERATED", 3):
             status, told = run_bench(hostile, "--model", "--count", "1000", "--seed", "2")
         self.assertEqual(status, False)
-        of_clients, of_texts, of_journals = told.splitlines()
+        of_clients, of_texts, of_journals, of_audits = told.splitlines()
         self.assertRegex(of_clients, "^clients' bytes: 960 from seed 2, 0 differ; answers [1-9].*, bad frames [1-9].*, refusals [1-9]")
         self.assertRegex(of_texts, "^texts of scenarios: 30 from seed 2, 0 differ; .*the text is no JSON [1-9]")
         self.assertRegex(of_journals, "^journals: 10 from seed 2, 0 differ; ")
+        self.assertRegex(of_audits, "^audits: 10 from seed 2, 0 differ; ")
 
     def test_they_go_by_their_seeds(self):
         self.assertEqual(hostile.requests_of(4, 20), hostile.requests_of(4, 20))
@@ -95,6 +98,26 @@ class Inputs(unittest.TestCase):
         told = (None, 0, [("its journal has records", 8)])
         with mock.patch.object(hostile, "came_of", lambda program, words, data: come(words, data)):
             return hostile.wrong_with_files("program", hostile.played_over(1), contents, told, contents)
+
+    def test_audits_are_compared(self):
+        """And no audit changes a file."""
+        bases, run_bases = hostile.journal_bases(), hostile.audit_bases()[:6]
+        met, leave = Counter(), []
+
+        def by_plain(program, made, folder):
+            files = audit.files_in(folder, made["sites"])
+            audit.write_files(folder, leave)
+            return audit.ended(made, folder, files)
+
+        with mock.patch.object(audit, "of_program", by_plain):
+            for seed in range(30):
+                self.assertIsNone(hostile.try_audit("program", bases, run_bases, seed, met))
+            self.assertTrue(met["yes"] and met["unreadable"] and met["no journal, or a damaged one"], met)
+            leave = [b"x"]
+            wrong = hostile.try_audit("program", bases, run_bases, 0, met)
+            self.assertEqual(wrong, "a file has other bytes behind the audit")
+        with mock.patch.object(audit, "of_program", lambda *words: (ends.NO_MEMORY, "out of memory", "")):
+            self.assertTrue(hostile.try_audit("program", bases, run_bases, 0, met).startswith("came 5 'out of memory'"))
 
     def test_sites_begin_over_what_is_found(self):
         """Over a journal without records a site comes to the same, in the layout and the format that it has, whatever is asked

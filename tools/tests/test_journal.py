@@ -7,14 +7,14 @@ import subprocess
 import unittest
 from collections import Counter
 
-from played import InFolder, TOP, RANDOM, examples, file_text, random_scenario, run_tool, tool
+from played import InFolder, TOP, RANDOM, disks_of, examples, file_text, random_scenario, run_tool, tool
 import generator
 import journals
 import model
 import readings
 import reports
 import words
-from spelled import *
+from spelled import BOOT, GOT, OWN, SEEN, WRITE, frame, record_of
 
 STOP = [["stop", 0], ["restart", 0]]
 ONE_AREA = """\
@@ -63,14 +63,6 @@ def example(name, steps=(), **more):
     """The scenario of an example, with more steps."""
     made = json.loads(file_text(os.path.join(TOP, "examples", f"{name}.json")))
     return {**made, **more, "steps": [*made["steps"], *steps]}
-
-
-def disks_of(made):
-    """The bytes on the disk of each site behind the model's run of a scenario, once the disk has settled."""
-    sites = model.played(made, Counter()).sites
-    for site in sites:
-        site.disk.settle()
-    return [bytes(site.disk.reads) for site in sites]
 
 
 class InWords(InFolder):

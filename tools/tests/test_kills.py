@@ -6,14 +6,16 @@ import os
 import sys
 import unittest
 from collections import Counter
+from unittest import mock
 
 from played import InFolder, run_bench
+import audit
 import file_commits
 import journals
 import kills
 import model
 import readings
-from spelled import FORMAT, OWN, frame
+from spelled import FORMAT, OWN, WRITE, frame, record_of
 
 # Appends ten records to the file of each of two sites, with a pause before each: LENGTH says how long they are. The closed gate
 # behind the last one becomes the open one of the next.
@@ -61,6 +63,25 @@ class Kills(InFolder):
 
     def test_a_program_that_fails_is_told(self):
         self.assertEqual(self.kill(self.program(status="6"))[0], "the program ended with status 6\n")
+
+    def test_what_is_left_is_audited(self):
+        """By both: another answer is wrong, and a history that isn't legal; a file with nothing in it is none."""
+        made = kills.Scenario(SCENARIO)
+        transaction = model.Tx((0, 1, 1), 0, (0, 0), ((WRITE, (1, 5), b""),))
+        empty, own = journals.empty(1, 100), record_of((OWN, 1, transaction))
+        for records, files, met, wrong in [
+            ([], [empty, empty], {"audited": 1}, None),
+            ([], [b"", empty], {"not audited": 1}, None),
+            ([own], [empty, empty], {}, "audit no unreadable 0.0 0.0"),
+        ]:
+            files[0] = files[0][:-1] + b"".join(b"\1" + frame(body) for body in records) + files[0][-1:]
+            audit.write_files(self.folder, files)
+            said, counted = audit.ended(made.made, self.folder, files), Counter()
+            with mock.patch.object(audit, "of_program", lambda *words, said=said: said):
+                self.assertEqual((kills.wrong_with_audit("program", made, self.folder, counted), counted), (wrong, met))
+            with mock.patch.object(audit, "of_program", lambda *words: (6, "a disk failed", "")):
+                self.assertEqual(kills.wrong_with_audit("program", made, self.folder, counted),
+                                 f"the audit ends with status 6, 'a disk failed', and the plain one with {said[0]}")
 
     def test_made_scenarios_of_two_areas_pack(self):
         for has_areas in False, True:

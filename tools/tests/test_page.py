@@ -180,11 +180,11 @@ class Page(unittest.TestCase):
         self.assertEqual(tried["filters"], [["all", "bob", "ann"], ["all", "1.1.1", "0.1.1"], ["all", "0", "1"],
                                             ["all", "restart", "start", "write", "commit", "PREPARE", "VOTE"]])
         self.assertTrue(tried["begin"].startswith("site 0standsdown"), tried["begin"])
-        self.assertTrue(tried["clicked"].startswith('stamp 3 at site 1bob write 1:5 "s" -> done'), tried["clicked"])
+        self.assertTrue(tried["clicked"].startswith('stamp 3 at site 1bob write 10:5 "s" -> done'), tried["clicked"])
         self.assertEqual((tried["later"], tried["stepped"], tried["key"], tried["searched"]), (6, 5, 6, [7, 9]))
         self.assertEqual(tried["ann"], [[3, 5, 8], "3 of 11 entries"])
         self.assertEqual((tried["next"], tried["there"], tried["commits"]), (3, [7], [6, 10]))
-        self.assertIn('holds1:5 "s"', tried["end"])
+        self.assertIn('holds10:5 "s"', tried["end"])
 
 
 if __name__ == "__main__":

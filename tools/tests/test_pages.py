@@ -90,7 +90,25 @@ class Small(InFolder):
         self.assertEqual(self.run_it()[0], 2)
 
 
+    def test_names_of_promises_are_looked_for_in_the_crate(self):
+        self.run_it()
+        os.makedirs(os.path.join(self.folder, "crates", "walter_rules", "specs"))
+        self.write("crates/walter_rules/specs/Rules.antt", "def IsRight : Rule\n")
+        page = ("# Promises\n\n| what | `outside` |\n\n## Crate by crate\n\n**`walter_rules`** Rules.\n\n"
+                "| promise | clause |\n|---|---|\n| It is `not` looked at | `IsRight`, as %s |\n\n"
+                "## Behind\n\n| what | `behind` |\n")
+        self.write("docs/PROMISES.md", page % "`IsRight`")
+        self.assertEqual(self.run_it("--check"), (0, ""))
+        self.write("docs/PROMISES.md", page % "`IsWrong of IsRight`")
+        where = "docs/PROMISES.md, line 11"
+        said = f"make-pages: {where}: IsWrong isn't in walter_rules\n{where}: of isn't in walter_rules\n"
+        self.assertEqual(self.run_it("--check"), (1, said))
+
+
 class ThisRepository(unittest.TestCase):
+    def test_the_promises_name_what_is_there(self):
+        self.assertEqual(list(tool("make-pages").strangers(file_text(os.path.join(TOP, "docs", "PROMISES.md")))), [])
+
     def test_each_crate_is_told(self):
         chapter = tool("make-pages").chapter()
         told = re.findall(r"^\| `(walter\w*)` \|", chapter, re.M)

@@ -7,7 +7,8 @@ import unittest
 
 from played import InFolder, TOP, file_text, seconds_of_commands
 
-USAGE = "walter: usage: walter play|run [--trace] [--disks DIR], with a scenario on standard input; or walter load --seed N --calls M\n"
+USAGE = ("walter: usage: walter play|run [--trace] [--disks DIR] or walter audit [--disks DIR], with a scenario on "
+         "standard input; or walter load --seed N --calls M\n")
 SCENARIO = os.path.join(TOP, "examples", "first_run.json")
 SCRIPT = os.path.join(TOP, "examples", "first_run.script")
 IS_SCRIPT = "walter: this is a script: tools/scenario makes a scenario of it, and tools/play plays it\n"
@@ -25,7 +26,7 @@ ENDED = "checked: ended status={0}\nraces: not looked for\nrun=ended status={0} 
 # What the program says of a number that is too large, among the lines of rt.
 TOO_LARGE = "error: 20001 is not in 0..=20000\n\nFor more information, try '--help'.\n"
 HELP = ("usage: walter [--unproved] play [--trace] [--disks DIR] [FILE]\n       walter [--unproved] run [--trace] [--disks DIR] [FILE]\n"
-        "       walter [--unproved] load --seed N --calls M\n")
+        "       walter [--unproved] audit [--disks DIR] [FILE]\n       walter [--unproved] load --seed N --calls M\n")
 FIRST = "walter: running without a proof, by rt try: this takes about a minute, and so does the next run\n"
 # Words of a load in any order and form, and some that are none.
 LOADS = [["--seed", "7", "--calls", "20001"], ["--calls", "5", "--seed", "7"], ["--seed=7", "--calls=5"],
@@ -39,6 +40,7 @@ WRONG_WORDS = [[], ["runs"], *([word, *words] for word in ("play", "run")
                               for words in (["--fast"], ["--trace", "--trace"], ["a", "b"], [""], ["--disks"], ["--disks="],
                                             ["--disks", "--trace"], ["--disks", "a", "--disks=b"])),
                ["--help", "play"], ["--unproved"], ["--unproved", "run", "--fast"], ["--trace", "play"],
+               ["audit", "--trace"], ["audit", "a", "b"], ["audit", "--disks"], ["audit", "--disks", "a", "--disks=b"],
                ["loads", "--seed", "7", "--calls", "5"], *(["load", *words] for words in NO_LOADS),
                *(["--unproved", "load", *words] for words in NO_LOADS)]
 TOO_MUCH = "checked: no-answer: it wrote too much\nrun=no-answer proved=no\n"
@@ -79,7 +81,8 @@ class Walter(InFolder):
 
     def test_help_and_the_version_are_said_at_once(self):
         for words, begins in [(["--help"], HELP), (["play", "--help"], HELP), (["run", "--help"], HELP),
-                              (["load", "--help"], HELP), (["--unproved", "--help"], HELP), (["--version"], "walter of the sources ")]:
+                              (["audit", "--help"], HELP), (["load", "--help"], HELP), (["--unproved", "--help"], HELP),
+                              (["--version"], "walter of the sources ")]:
             begun = seconds_of_commands()
             status, said, wrong = self.run_it(*words)
             self.assertEqual((status, wrong, said[: len(begins)]), (0, "", begins))
@@ -92,7 +95,8 @@ class Walter(InFolder):
 
     def test_a_file_that_is_not_there_is_named(self):
         for path, why in ("none.json", "No such file or directory"), (self.folder, "Is a directory"):
-            for words in ["play", path], ["play", "--trace", path], ["--unproved", "play", path], ["run", path]:
+            for words in (["play", path], ["play", "--trace", path], ["--unproved", "play", path], ["run", path],
+                          ["audit", path]):
                 self.assertEqual(self.run_it(*words), (3, "", f"walter: {path}: {why}\n"))
         self.assertEqual(self.calls(), "")
 
@@ -101,6 +105,7 @@ class Walter(InFolder):
             self.assertEqual(self.run_it("play", stdin=script), (2, "", IS_SCRIPT))
         self.assertEqual(self.run_it("play", SCRIPT), (2, "", IS_SCRIPT))
         self.assertEqual(self.run_it("run", SCRIPT), (2, "", IS_SCRIPT))
+        self.assertEqual(self.run_it("audit", SCRIPT), (2, "", IS_SCRIPT))
         self.assertEqual(self.run_it("--unproved", "play", "--trace", input=file_text(SCRIPT)), (2, "", IS_SCRIPT))
         self.assertEqual(self.run_it("play", input="\n\n  sites 1 tolerated 0\n"), (2, "", IS_SCRIPT))
         self.assertEqual(self.calls(), "")
@@ -116,6 +121,8 @@ class Walter(InFolder):
         self.assertEqual(self.run_it("run", SCENARIO), (0, "run\n" + file_text(SCENARIO), ""))
         self.assertEqual(self.run_it("run", "--trace", input=file_text(SCENARIO)),
                          (0, "run --trace\n" + file_text(SCENARIO), ""))
+        self.assertEqual(self.run_it("audit", SCENARIO, "--disks", "a b"),
+                         (0, "audit --disks=a b\n" + file_text(SCENARIO), ""))
         self.assertEqual(self.calls(), "run\n")
         self.assertIn("proved and built here", self.run_it("--version")[1])
 
@@ -164,7 +171,7 @@ class Walter(InFolder):
         os.remove(os.path.join(self.folder, "rt"))
         self.environment["PATH"] = os.pathsep.join(part for part in os.environ["PATH"].split(os.pathsep)
                                                    if not os.path.exists(os.path.join(part, "rt")))
-        for words, status in (["play", SCENARIO], 9), (["--unproved", "play", SCENARIO], 8):
+        for words, status in (["play", SCENARIO], 9), (["--unproved", "play", SCENARIO], 10):
             found = self.run_it(*words)
             self.assertEqual(found[:2], (status, ""))
             self.assertIn("the command rt is not on the path", found[2])
@@ -180,17 +187,17 @@ class Walter(InFolder):
     def test_unproved_has_a_status_where_there_is_no_answer(self):
         self.answers("half a report", TOO_MUCH)
         status, played, said = self.run_it("--unproved", "play", "--trace", SCENARIO)
-        self.assertEqual((status, played, said.splitlines()[1:]), (8, "", ["walter: no answer: it wrote too much"]))
+        self.assertEqual((status, played, said.splitlines()[1:]), (10, "", ["walter: no answer: it wrote too much"]))
         self.answers("the report\n", ENDED.format(0))
         closed = self.run_it("--unproved", "play", stdin=None, preexec_fn=lambda: os.close(0))
-        self.assertEqual((closed[0], closed[2].splitlines()[1:]), (8, ["walter: no answer: standard input is closed"]))
+        self.assertEqual((closed[0], closed[2].splitlines()[1:]), (10, ["walter: no answer: standard input is closed"]))
         with open("/dev/full", "w", encoding="utf-8") as full:
             status, _, said = self.run_it("--unproved", "play", SCENARIO, stdout=full)
         self.assertEqual((status, said.splitlines()[1:]),
-                         (8, ["walter: no answer: the output could not be written to its end"]))
+                         (10, ["walter: no answer: the output could not be written to its end"]))
         self.answers("", "error: the crate is refused\nrun=none proved=no\n")
         status, _, said = self.run_it("--unproved", "play", SCENARIO)
-        self.assertEqual((status, said.splitlines()[1:]), (8, ["walter: no answer: error: the crate is refused"]))
+        self.assertEqual((status, said.splitlines()[1:]), (10, ["walter: no answer: error: the crate is refused"]))
 
     def test_the_wrapper_of_this_repository_answers_at_once(self):
         begun = seconds_of_commands()
