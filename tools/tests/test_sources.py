@@ -221,6 +221,11 @@ class Dist(Repository):
         other = self.write("other", PROGRAM + "# another\n", True)
         status, _, said = self.run_it("tools/make-dist", "--compare", other)
         self.assertEqual((status, said), (1, f"make-dist: dist/walter differs from {other}, which is built of the same sources\n"))
+        manifest = file_text(os.path.join(self.folder, "dist", "manifest"))
+        self.write("dist/manifest", re.sub("kit .*", "kit another", manifest))
+        self.assertEqual(self.run_it("tools/make-dist", "--compare", other),
+                         (0, "dist/ was built by another, and this is the kit of this test: " + compared, ""))
+        self.write("dist/manifest", manifest)
         shutil.rmtree(os.path.join(self.folder, "crates", "walter", "out"))
         self.assertEqual(self.run_it("tools/make-dist", "--compare"),
                          (0, "dist/ is of these sources, and no program was built of them here: " + compared, ""))
