@@ -169,6 +169,10 @@ def compare(words, name, source, expected):
         sys.exit(f"{name}, status {played.returncode}\nplayed: {line[:300]}\nmodel:  {wanted[:300]}")
 
 
+# A changed journal of two areas may be damaged: what a pack leaves out of a body goes by its bytes.
+DAMAGED = "damaged"
+
+
 def knows_audits(program):
     """Whether a program has the command `audit`: its disks in memory have no journals."""
     asked = subprocess.run([program, "audit"], input=json.dumps(EMPTY), capture_output=True, text=True)
@@ -210,8 +214,8 @@ class Audits:
             sys.exit(f"{name}, over file disks: status {ended.returncode}, {ended.stderr}")
         return audit.files_in(folder, made["sites"])
 
-    def audit(self, name, folder, made, files, statuses=(ends.DONE, ends.NOT_LEGAL)):
-        """Audits these journals, which come to one of these statuses. Gives the reason, or yes."""
+    def audit(self, name, folder, made, files, statuses=(ends.DONE, ends.NOT_LEGAL, ends.NO_JOURNAL)):
+        """Audits these journals, which come to one of these statuses. Gives the reason, or yes, or that one is damaged."""
         wanted = status, _, text = audit.ended(made, folder, files)
         came = wanted
         if self.program:
@@ -221,12 +225,12 @@ class Audits:
             line, other = first_difference(came[2], text)
             sys.exit(f"{name}\naudit: status {came[0]}, {line[:300]}{came[1]}\n"
                      f"model: status {status}, {other[:300]}{wanted[1]}")
-        return text.split()[2] if status == ends.NOT_LEGAL else "yes"
+        return {ends.DONE: "yes", ends.NO_JOURNAL: DAMAGED}.get(status) or text.split()[2]
 
     def lines(self):
         yield f"audits: {self.left:,} runs left journals of a legal history"
         for kind in changes.CHANGES:
-            counts = {reason: self.met[kind, reason] for reason in audit.REASONS if self.met[kind, reason]}
+            counts = {reason: self.met[kind, reason] for reason in (*audit.REASONS, DAMAGED) if self.met[kind, reason]}
             reasons = ", ".join(f"{reason} {count:,}" for reason, count in counts.items())
             yield (f"with {kind}: {self.met[kind, 'yes']:,} yes, {sum(counts.values()):,} no"
                    + (f" ({reasons})" if counts else ""))
