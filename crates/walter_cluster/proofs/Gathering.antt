@@ -19,12 +19,12 @@ use Rattle.walter_rules.specs.Merges.{trail_of}
 use Rattle.walter_rules.specs.Trails.{clock, standing}
 use Rattle.walter_cluster.specs.Benches.{BenchValue, IsBench, Keeps, trails_of}
 use Rattle.walter_cluster.specs.Meetings.{HasArrived, HasGathered}
-use Rattle.walter_cluster.specs.Moments.{KeepsArms, MovesAt, Drops, moment_of, clock_at}
+use Rattle.walter_cluster.specs.Moments.{KeepsArms, MovesAt, CallsDisk, Drops, moment_of, clock_at}
 use Rattle.walter_cluster.specs.Pumps.{IsPumpAt, PumpsAt, standing_at}
-use Rattle.walter_cluster.proofs.Arrivals.{ins_here, moves_at, pumps_at, taken_before, delivered_keeps, delivered_arms, delivered_drops, place_left}
+use Rattle.walter_cluster.proofs.Arrivals.{ins_here, moves_at, pumps_at, taken_before, delivered_keeps, delivered_arms, delivered_calls, delivered_drops, place_left}
 use Rattle.walter_cluster.proofs.Benches.{one_at, trails_kept}
 use Rattle.walter_cluster.proofs.Changes.{ChangesOne, there_is, field_at}
-use Rattle.walter_cluster.proofs.Meetings.{trails_stay, arms_stay, each_stays}
+use Rattle.walter_cluster.proofs.Meetings.{trails_stay, arms_stay, calls_stay, each_stays}
 
 -- no more is taken than has arrived
 other_keeps : (arrived : ℕ → ℕ) (own : Bool) (n : ℕ) (p : PumpValue) → KeepsPump arrived p (take_other own (record { 0 = n }) (arrived n) p)
@@ -76,6 +76,12 @@ module _ {D : Type 0} (g : Ghosts D) (old mid : BenchValue D) (to : SiteId) (is 
   pub gathered_drops : Drops g to old mid
   gathered_drops met told cell there = inl (ap (λ ts. trail_of ts to) (trails_stay old.cells mid.cells gathers.stays))
 
+  pub gathered_calls : CallsDisk g to old mid
+  gathered_calls told cell there = inl (
+    ap (λ ts. trail_of ts to) (trails_stay old.cells mid.cells gathers.stays),
+    calls_stay old.cells mid.cells gathers.stays g to.0,
+  )
+
   pub gathered_trails : trails_of mid.cells ≡ trails_of old.cells
   gathered_trails = trails_stay old.cells mid.cells gathers.stays
 
@@ -108,6 +114,9 @@ module _ {D : Type 0} (g : Ghosts D) (old mid : BenchValue D) (to : SiteId) (is 
 
       pub now_drops : Drops g to old (record { cells = new; homes = mid.homes })
       now_drops = delivered_drops g old.homes old.cells mid.cells gathers.stays is to below arrives gathers.elsewhere new a x one proceeds gathers.met
+
+      pub now_calls : CallsDisk g to old (record { cells = new; homes = mid.homes })
+      now_calls = delivered_calls g old.homes old.cells mid.cells gathers.stays is to below arrives gathers.elsewhere new a x one proceeds
 
       pub now_arms : KeepsArms (moment_of g old.cells) (moment_of g new)
       now_arms = delivered_arms g old.homes old.cells mid.cells gathers.stays is to below arrives gathers.elsewhere new a x one proceeds

@@ -8,7 +8,7 @@ use Rattle.walter_rules.specs.Standing.{Standing}
 use Rattle.walter_cluster.specs.Pumps.{at_once, raises}
 use Rattle.walter_cluster.proofs.Benches.{on_err_so}
 use Rattle.walter_cluster.proofs.Changes.{one_there}
-use Rattle.walter_cluster.proofs.Gathering.{read_here, has_place, is_spent, stands_here, gathered_keeps, gathered_drops, gathered_trails, gathered_arms, lanes_here, one, site_here, now_keeps, now_drops, now_arms, now_trails, now_pump, now_pumps}
+use Rattle.walter_cluster.proofs.Gathering.{read_here, has_place, is_spent, stands_here, gathered_keeps, gathered_calls, gathered_drops, gathered_trails, gathered_arms, lanes_here, one, site_here, now_keeps, now_calls, now_drops, now_arms, now_trails, now_pump, now_pumps}
 use Rattle.walter_cluster.proofs.Keeping.{bench_self, each_one, pump_kept, whole_kept}
 use Rattle.walter_cluster.proofs.bench.Bench.pump.Given.{Over}
 use Rattle.walter_cluster.proofs.bench.Bench.pump.Goals.{After-is_spent, After-is_up, After-gather, After-index_mut}
@@ -81,6 +81,11 @@ returns-in_err-gather-clause-drops g c =
     let at = (goal.at.returns-in_err-gather-clause-drops g c).After-gather in
     gathered_drops g.D.Disk _ _ c.args.site (is g at) c.requires.there c.gather.ensures.gathers
 
+pub returns-in_err-gather-clause-calls : goal.returns-in_err-gather-clause-calls
+returns-in_err-gather-clause-calls g c =
+    let at = (goal.at.returns-in_err-gather-clause-calls g c).After-gather in
+    gathered_calls g.D.Disk _ _ c.args.site (is g at) c.requires.there c.gather.ensures.gathers
+
 pub returns-in_err-gather-clause-kept : goal.returns-in_err-gather-clause-kept
 returns-in_err-gather-clause-kept g c =
     let at = (goal.at.returns-in_err-gather-clause-kept g c).After-gather in
@@ -150,6 +155,12 @@ pub returns-clause-drops : goal.returns-clause-drops
 returns-clause-drops g c =
     let at = (goal.at.returns-clause-drops g c).After-index_mut in
     now_drops g.D.Disk _ _ c.args.site (now_is g at) c.requires.there (gathers g at) (arrives g at) c.from-place.result c.index_mut.result.now
+    c.pump_arrived.new.self c.from-place.ensures c.index_mut.ensures.value c.pump_arrived.ensures.proceeds
+
+pub returns-clause-calls : goal.returns-clause-calls
+returns-clause-calls g c =
+    let at = (goal.at.returns-clause-calls g c).After-index_mut in
+    now_calls g.D.Disk _ _ c.args.site (now_is g at) c.requires.there (gathers g at) (arrives g at) c.from-place.result c.index_mut.result.now
     c.pump_arrived.new.self c.from-place.ensures c.index_mut.ensures.value c.pump_arrived.ensures.proceeds
 
 pub returns-clause-arms : goal.returns-clause-arms
