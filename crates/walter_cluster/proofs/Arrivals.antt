@@ -130,6 +130,15 @@ module _ {D : Type 0} (g : Ghosts D) (homes : List SiteId)
       ∙ (ap (λ (l : List Posted). length l) (field_past (λ (r : Receiving). r.arrived) c.0.ins from.0 [] (omega (arith, many, past)))
       ∙ sym (ap (λ (es : List Entry). length (put_out_to to es)) (field_past (λ (c : CellValue D). c.node.trail) old from.0 [] past)))
 
+  -- no more was taken than had arrived
+  pub taken_before : (a : CellValue D) → slice_get mid to.0 ≡ Some a → (before : PumpValue) → IsPumpAt old to before
+      → (from : ℕ) → taken_from before from ≤ counts_in a.ins from
+  taken_before a at before is_pump from =
+      let most = is_pump.taken from in
+      let more = more_arrived g old mid (each_stays old mid stay g) to.0 from in
+      let now = ap (λ (is : List Receiving). length (arrived_from is from)) (field_at (λ (c : CellValue D). c.ins) mid to.0 a [] at) in
+      omega (arith, most, more, now)
+
   module _ (new : List (CellValue D)) (a x : CellValue D) (one : ChangesOne mid new to.0 a x) (proceeds : cell.Proceeds g a x) where
     pub all_arrive : AllArrive to (moment_of g old) (moment_of g new)
     all_arrive = record {
@@ -198,14 +207,6 @@ module _ {D : Type 0} (g : Ghosts D) (homes : List SiteId)
         ap (λ (is : List Receiving). length (arrived_from is from.0)) (sym (field_at (λ (c : CellValue D). c.ins) mid to.0 a [] one.was))
         ∙ (ap (λ (l : List Posted). length l) (arrives from.0 within (λ e. apart (ap site_at e))).all
         ∙ length-map (put_out_to to (trail_of (trails_of old) from)) (posted (length old)))
-
-    -- no more was taken than had arrived
-    pub taken_before : (before : PumpValue) → IsPumpAt old to before → (from : ℕ) → taken_from before from ≤ counts_in a.ins from
-    taken_before before is_pump from =
-        let most = is_pump.taken from in
-        let more = more_arrived g old mid (each_stays old mid stay g) to.0 from in
-        let now = ap (λ (is : List Receiving). length (arrived_from is from)) (field_at (λ (c : CellValue D). c.ins) mid to.0 a [] one.was) in
-        omega (arith, most, more, now)
 
     -- a packet that was taken is there
     never_missing : (pump : PumpValue) (first : Waiting) (answer : Moved) → HasTaken pump first → pump.site ≡ to → length pump.senders ≡ length old
@@ -277,8 +278,8 @@ module _ {D : Type 0} (g : Ghosts D) (homes : List SiteId)
           let site : pump.site ≡ to = keeps.site ∙ is_pump.site in
           let within : first.from.0 < length old = (let t = taken.there in omega (arith, t, many)) in
           let apart : first.from ≢ to = λ e. taken.apart (e ∙ sym site) in
-          let hands = hands_at first.from first.number moved apart within moves in
-          let most = keeps.taken first.from.0 (taken_before before is_pump first.from.0) in
+          let hands = hands_at first.from first.number moved apart within moves.moves in
+          let most = keeps.taken first.from.0 (taken_before a one.was before is_pump first.from.0) in
           (never_missing pump first moved taken site many most hands, hands))
           acts_on
           (λ still. trail_now g mid new to a x one ∙ (still ∙ sym trail_on))

@@ -7,6 +7,7 @@ ghost use Rattle.walter_cell.specs.Cells.{CellValue};
 ghost use Rattle.walter_cell.specs.Entries.{IsPlain};
 ghost use Rattle.walter_cell.specs.Lines.{CanFail, HasFaultAt, IsLineAt, NextIsWrite};
 ghost use Rattle.walter_cell.specs.Nodes.{is_told};
+ghost use Rattle.walter_cell.specs.Pumps.{TakesSome};
 ghost use Rattle.walter_cluster.specs.Meetings.{HasArrived, HasGathered};
 ghost use Rattle.walter_cluster.specs.Pumps.{IsPumpAt, PumpsAt};
 ghost use Rattle.walter_cluster.specs.Turns.{ServesAtHome};
@@ -222,6 +223,9 @@ impl<D: Disk + Drop, S: Source + Drop, K: Sink + Drop> Bench<D, S, K> {
             → IfOk result (PumpsAt (is_told D.Disk c.node.disk ≡ true) c.node.catalog site
             (moment_of D.Disk self.old.cells) (moment_of D.Disk self.new.cells) pump.old pump.new) }
         ensures pump { IsPumpAt self.new.cells site pump.new }
+        // Where memory runs out, of the first so many sites all that has arrived was taken, and nothing else.
+        ensures taken { OnErr result (TakesSome site ((moment_of D.Disk self.new.cells).arrived site.0)
+            pump.old pump.new) }
         ensures drops { Drops D.Disk site self.old self.new }
         ensures calls { CallsDisk D.Disk site self.old self.new }
         ensures kept { OnErr result (trails_of self.new.cells ≡ trails_of self.old.cells) }
