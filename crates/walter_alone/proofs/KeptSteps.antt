@@ -1,5 +1,5 @@
 -- What a site keeps by itself, over each kind of step of it.
-use Rattle.std.proofs.Common.{◌≡◌, ◌+◌, ◌<◌, ℕ, nat_eq, true, false, List, [], ◌∷◌, ◌++◌, Some, None, IfSome, Ok, option_map, refl, ap, sym, ◌∙◌, subst, inl, inr, if◌then◌else◌}
+use Rattle.std.proofs.Common.{◌≡◌, ◌+◌, ◌<◌, ℕ, nat_eq, true, false, List, [], ◌∷◌, ◌++◌, Some, None, IfSome, Ok, option_map, refl, ap, sym, ◌∙◌, subst, arith, inl, inr, if◌then◌else◌}
 use Rattle.std.specs.Prelude.{Option, Result}
 use Rattle.std.proofs.lemmas.Bool.{cases_Bool, eq-eqb}
 use Rattle.std.proofs.lemmas.Option.{same_Some}
@@ -12,7 +12,7 @@ use Rattle.walter_base.specs.declared.message.Record.TheVariants.{Own, Got, Seen
 use Rattle.walter_base.specs.declared.message.Reply.{Reply}
 use Rattle.walter_base.specs.declared.message.Reply.TheVariants.{Started, Value, Done, Set, Count, Committed, Aborted, Deciding, Level, Ended, Refused}
 use Rattle.walter_base.specs.declared.message.Request.{Request}
-use Rattle.walter_base.specs.declared.message.Request.TheVariants.{Start, Read, Write, SetAdd, SetDel, SetRead, SetReadId, Commit, Abort, Level as LevelAsked}
+use Rattle.walter_base.specs.declared.message.Request.TheVariants.{Start, Read, Write, SetAdd, SetDel, SetRead, SetReadId, Commit, Abort, Level as LevelAsked, Handover}
 use Rattle.walter_base.specs.declared.names.SiteId.{SiteId}
 use Rattle.walter_base.specs.declared.packet.Answer.TheVariants.{Yes, No}
 use Rattle.walter_base.specs.declared.packet.Packet.TheVariants.{Propagate, Ack, Dsmark, Visible, Prepare, Vote, Release, Released as ReleasedSaid}
@@ -29,10 +29,10 @@ use Rattle.walter_rules.specs.declared.event.Event.TheVariants.{Given, Stop, Res
 use Rattle.walter_rules.specs.declared.event.Input.TheVariants.{Call, Deliver, Advance, Tick, Upgrade}
 use Rattle.walter_rules.specs.declared.outcome.Outcome.{Outcome}
 use Rattle.walter_rules.specs.declared.outcome.Outcome.TheVariants.{Replied, Taken, Passed, Failed, Full, Memory, Down}
-use Rattle.walter_rules.specs.Allowed.{IsKind, is_refused, starts, does, reads, ends, aborts, conflicts, commits, begins, waits, tells_version, tells_cause, levels_own, is_deciding, is_running, denies, passes, receives, hears_ack, hears_durable, hears_visible, marks_durable, marks_visible, prepares, hears_yes, decides, gives_up, releases, hears_released, sees, upgrades, stops, is_down, boots, IsUpdateCall, of_write, of_add, of_del, IsReadCall, of_value, of_counts, of_count, HasOpen}
-use Rattle.walter_rules.specs.Calls.{own_version, next_seq, next_slow, next_tid, read_updates, level_of_own}
+use Rattle.walter_rules.specs.Allowed.{IsKind, is_refused, starts, does, reads, ends, aborts, conflicts, commits, begins, moves, waits, tells_version, tells_cause, levels_own, is_deciding, is_running, denies, passes, receives, hears_ack, hears_durable, hears_visible, marks_durable, marks_visible, prepares, hears_yes, decides, gives_up, releases, hears_released, sees, upgrades, stops, is_down, boots, IsUpdateCall, of_write, of_add, of_del, IsReadCall, of_value, of_counts, of_count, HasOpen}
+use Rattle.walter_rules.specs.Calls.{own_version, next_seq, next_slow, next_tid, read_updates, level_of_own, move_of}
 use Rattle.walter_rules.specs.Conflicts.{cause_of}
-use Rattle.walter_rules.specs.Declarations.{is_declared, are_declared}
+use Rattle.walter_rules.specs.Declarations.{is_declared}
 use Rattle.walter_rules.specs.Knowledge.{Knowledge, session_of, vector_of}
 use Rattle.walter_rules.specs.Layouts.{Layout}
 use Rattle.walter_rules.specs.Learning.{starts_after, sessions_after, deciding, recorded, after, lost}
@@ -43,10 +43,12 @@ use Rattle.walter_rules.specs.Slow.{Undecided, Dropped, Decided, begun}
 use Rattle.walter_rules.specs.Standing.{Standing, settled, goes_down, comes_up, up_after, knows_after, flight_after}
 use Rattle.walter_rules.specs.Trails.{standing, IsOnly, failure, want, fullness, IsFound, IsRightEntry, AreRight}
 use Rattle.walter_agreement.proofs.Cases.{none_not_some}
-use Rattle.walter_agreement.proofs.Issued.{IsIssued}
+use Rattle.walter_agreement.proofs.Issued.{IsIssued, next_issued, next_not_issued}
+use Rattle.walter_agreement.proofs.Tidy.{IsUnbegun}
 use Rattle.walter_alone.proofs.Alone.{issued_by, IsAlone}
 use Rattle.walter_alone.proofs.Followed.{kind_follows}
-use Rattle.walter_alone.proofs.Kept.{IsKept, kept_at_first, IsPlain, IsNewName, CanBegin, unflown, falls, settles, quiet, closes, changes, starts_one, begins_slow, boots_up, none_flying}
+use Rattle.walter_alone.proofs.SoundSessions.{is_writable, are_writable, writable_bare}
+use Rattle.walter_alone.proofs.Kept.{IsKept, hands_one, kept_at_first, IsPlain, IsNewName, CanBegin, unflown, issued_down, falls, settles, quiet, closes, changes, starts_one, begins_slow, boots_up, none_flying}
 use Rattle.walter_rules.proofs.Staying.{fault_falls}
 use Rattle.walter_runs.proofs.Steps.{IsStep, stable, flies, unread_step, wants, finds_full, step_of}
 
@@ -118,10 +120,10 @@ failed_falls Stop = refl
 failed_falls Restart = refl
 
 -- one update more
-more_declared : (catalog : Catalog) (updates : List Update) (update : Update) → is_declared catalog update ≡ true
-    → are_declared catalog updates ≡ true
-    → are_declared catalog (updates ++ update ∷ []) ≡ true
-more_declared catalog updates update one all = list_all-append (is_declared catalog) updates (update ∷ [])
+more_declared : (catalog : Catalog) (updates : List Update) (update : Update) → is_writable catalog update ≡ true
+    → are_writable catalog updates ≡ true
+    → are_writable catalog (updates ++ update ∷ []) ≡ true
+more_declared catalog updates update one all = list_all-append (is_writable catalog) updates (update ∷ [])
     ∙ rw (all, one) refl
 
 module _ (catalog : Catalog) (i : SiteId) (below : i.0 < catalog.sites) (S : Standing)
@@ -177,7 +179,8 @@ module _ (catalog : Catalog) (i : SiteId) (below : i.0 < catalog.sites) (S : Sta
     where
       by : (r : Record) → S.flight ≡ Some r → CanBegin catalog i S.up S.knows S.flight I r
       by (SlowBegin n x) flying = let f = I.tidy.flight n x flying in (f.2, f.3, f.4, I.names.begins n x flying)
-      by (Own seq x) flying = I.names.flies seq x flying
+      by (Own seq x) flying = λ zero_. let f = I.names.flies seq x flying zero_ in
+          (issued_down S.up S.knows x.tid f.0, f.1)
       by rec flying = tt
 
   -- the record of each kind can follow, and a slow commit can begin
@@ -185,6 +188,24 @@ module _ (catalog : Catalog) (i : SiteId) (below : i.0 < catalog.sites) (S : Sta
       → IfSome wrote (CanFollow catalog i S.knows)
   kind_can event wrote outcome kind = kind_follows catalog i S
       (issued_by S.up S.knows) I.learned I.sound I.tidy I.booted event wrote outcome kind
+
+  -- the name that is given next is that of no slow commit, nor of a session
+  next_unbegun : S.up ≡ true → IsUnbegun S.knows.slow (next_tid i S.knows)
+  next_unbegun up m y begun_ same =
+      next_not_issued i (issued_by true S.knows)
+      (subst (λ t. IsIssued (issued_by true S.knows) t) same
+      (subst (λ b. IsIssued (issued_by b S.knows) y.tid) up (I.tidy.named m y begun_).3))
+
+  move_name : S.up ≡ true → (container : ℕ) (to : SiteId)
+      → IsNewName (λ c. session_of S.knows c) S.knows.slow
+      (record { epoch = S.knows.epoch; starts = S.knows.starts + 1 })
+      (Some (Own (next_seq i S.knows) (move_of catalog i S.knows container to)))
+  move_name up container to zero_ = (
+    (next_issued i (issued_by true S.knows), next_unbegun up),
+    λ c s has none same. next_not_issued i (issued_by true S.knows)
+        (subst (λ t. IsIssued (issued_by true S.knows) t) same
+        (subst (λ b. IsIssued (issued_by b S.knows) s.tid) up (I.sound.started c s has).1)),
+  )
 
   kind_begins : (event : Event) (wrote : Option Record) (outcome : Outcome) → IsKind catalog i S event wrote outcome
       → IfSome wrote (CanBegin catalog i S.up S.knows S.flight I)
@@ -196,7 +217,12 @@ module _ (catalog : Catalog) (i : SiteId) (below : i.0 < catalog.sites) (S : Sta
         I.names.open_ client s open_.session open_.is_open,
       )
   kind_begins event wrote outcome (commits client s open_ some local clear) =
-      λ zero_. ((I.sound.started client s open_.session).1, I.tidy.open_ client s open_.session open_.is_open)
+      λ zero_. (
+        issued_down S.up S.knows s.tid (I.sound.started client s open_.session).1,
+        I.tidy.open_ client s open_.session open_.is_open,
+      )
+  kind_begins event wrote outcome (moves client container to may) =
+      λ zero_. (inl (omega arith), next_unbegun may.up)
   kind_begins event wrote outcome (decides p number n tx asked from undecided within said) =
       λ zero_. absurd (let name = I.tidy.named n tx (ap begun undecided) in name.1 (sym name.0 ∙ zero_))
   kind_begins event wrote outcome kind = tt
@@ -204,7 +230,7 @@ module _ (catalog : Catalog) (i : SiteId) (below : i.0 < catalog.sites) (S : Sta
   -- the sessions stay, with a plain record or without one
   stays_quiet : S.up ≡ true → (event : Event) (outcome : Outcome) (wrote : Option Record) → IsPlain wrote
       → IfSome wrote (CanFollow catalog i S.knows)
-      → starts_after outcome S.knows.starts ≡ S.knows.starts
+      → starts_after event outcome S.knows.starts ≡ S.knows.starts
       → sessions_after event outcome wrote (vector_of catalog
       (recorded catalog i wrote S.knows)) S.knows.sessions ≡ S.knows.sessions
       → IsNewName (λ c. session_of (after catalog i S.knows event outcome wrote) c) S.knows.slow
@@ -219,7 +245,7 @@ module _ (catalog : Catalog) (i : SiteId) (below : i.0 < catalog.sites) (S : Sta
       → S.up ≡ true → session_of S.knows client ≡ Some s
       → ((x : Tx) (asked : List SiteId) → S.knows.slow s.slow ≡ Undecided x asked → ⊥)
       → IsPlain wrote → IfSome wrote (CanFollow catalog i S.knows)
-      → starts_after outcome S.knows.starts ≡ S.knows.starts
+      → starts_after (Given (Call client call)) outcome S.knows.starts ≡ S.knows.starts
       → ((c : ℕ) → session_of (after catalog i S.knows (Given (Call client call)) outcome wrote) c ≡
       (if nat_eq client c then None else session_of S.knows c))
       → IsNewName (λ c. session_of (after catalog i S.knows (Given (Call client call)) outcome wrote) c) S.knows.slow
@@ -237,7 +263,7 @@ module _ (catalog : Catalog) (i : SiteId) (below : i.0 < catalog.sites) (S : Sta
   open_none client s open_ x asked h = (I.tidy.named s.slow x (ap begun h)).1 open_.is_open
 
   done_more : (client : ℕ) (call : Result Request BadFrame) (s : Session) (update : Update) → HasOpen S client s
-      → is_declared catalog update ≡ true
+      → is_writable catalog update ≡ true
       → ((c : ℕ) → session_of (after catalog i S.knows (Given (Call client call)) (Replied Done) None) c ≡
       (if nat_eq client c then option_map (with_update update) (session_of S.knows c) else session_of S.knows c))
       → IsKept catalog i S.up (after catalog i S.knows (Given (Call client call)) (Replied Done) None)
@@ -252,12 +278,12 @@ module _ (catalog : Catalog) (i : SiteId) (below : i.0 < catalog.sites) (S : Sta
       → IsUpdateCall call update → is_declared catalog update ≡ true
       → Then (Given (Call client call)) (Replied Done) None None
   done_kept client call s update open_ (of_write oid bytes) declared = done_more client (Ok (Write oid bytes)) s
-      (WriteOf oid bytes) open_ declared (λ c. lookup-changed client c
+      (WriteOf oid bytes) open_ (rw declared refl) (λ c. lookup-changed client c
       (with_update (WriteOf oid bytes)) S.knows.sessions)
   done_kept client call s update open_ (of_add oid id) declared = done_more client (Ok (SetAdd oid id)) s
-      (Add oid id) open_ declared (λ c. lookup-changed client c (with_update (Add oid id)) S.knows.sessions)
+      (Add oid id) open_ (rw declared refl) (λ c. lookup-changed client c (with_update (Add oid id)) S.knows.sessions)
   done_kept client call s update open_ (of_del oid id) declared = done_more client (Ok (SetDel oid id)) s
-      (Del oid id) open_ declared (λ c. lookup-changed client c (with_update (Del oid id)) S.knows.sessions)
+      (Del oid id) open_ (rw declared refl) (λ c. lookup-changed client c (with_update (Del oid id)) S.knows.sessions)
 
   read_kept : (client : ℕ) (call : Result Request BadFrame) (reply : Reply) (updates : List Update) → S.up ≡ true
       → IsReadCall call reply updates
@@ -324,6 +350,13 @@ module _ (catalog : Catalog) (i : SiteId) (below : i.0 < catalog.sites) (S : Sta
       (kind_can event wrote outcome (commits client s open_ some local clear)) refl
       (λ c. lookup-without client c S.knows.sessions)
       (own_name client s open_)
+  kind_kept event wrote outcome (moves client container to may) =
+      let outcome_ : Outcome = Replied (Committed (own_version i (next_seq i S.knows))) in
+      let rec : Record = Own (next_seq i S.knows) (move_of catalog i S.knows container to) in
+      back may.up outcome_ (Some rec)
+      (after catalog i S.knows (Given (Call client (Ok (Handover container to)))) outcome_ (Some rec))
+      (hands_one catalog i S.knows S.flight (at_up may.up) below client container to outcome_ rec tt
+      (kind_can event wrote outcome (moves client container to may)) refl refl (move_name may.up container to))
   kind_kept event wrote outcome (begins client s open_ some clear) =
       let n : ℕ = next_slow S.knows in
       let rec : Record = SlowBegin n (tx_of (with_slow n s)) in
@@ -459,11 +492,16 @@ alone_of catalog i S I = record {
   names = I.names;
   own_open = I.learned.own_open;
   owners = I.learned.owners;
-  here = I.learned.here;
+  listing = I.learned.listing;
+  logged = I.learned.logged;
+  homes = I.learned.homes;
+  placed = I.learned.placed;
   asked = I.learned.asked;
+  written = I.learned.written;
   started = I.sound.started;
   distinct = I.sound.distinct;
   snapshots = I.sound.snapshots;
+  bare = λ c s h. writable_bare catalog s.updates (I.sound.declared c s h);
   outside = I.learned.outside;
   stopped = I.stopped;
   booted = I.booted;

@@ -151,20 +151,21 @@ module _ (catalog : Catalog) (layout : Layout) (i : SiteId) (S : Standing) (even
   abbrev pub prepare : Input
   prepare = Deliver j asked.number (Prepare n tid asked.start objects)
 
-  prepare_rule : rule (header_of layout) catalog i S (Given prepare) ≡ prepares_by S.knows j n tid asked.start objects (S.knows.part j n)
+  prepare_rule : rule (header_of layout) catalog i S (Given prepare)
+      ≡ prepares_by catalog i S.knows j n tid asked.start objects (S.knows.part j n)
   prepare_rule = peer_rule catalog layout i S came j asked.number (Prepare n tid asked.start objects) asked.at
-      ∙ ap (λ b. if_lockable b S.knows j n tid asked.start objects) asked.lockable
+      ∙ ap (λ b. if_lockable b catalog i S.knows j n tid asked.start objects) asked.regular
 
   prepared_by : Comes catalog layout i S (Given prepare) came → (part : Part) → S.knows.part j n ≡ part
       → IsLocked layout S j n tid objects came
   prepared_by comes Free is =
       is_locked is
       (written catalog layout i S came prepare (Prepared j n tid objects) (back j (Vote n Yes)) tt
-      (prepare_rule ∙ (ap (prepares_by S.knows j n tid asked.start objects) is
+      (prepare_rule ∙ (ap (prepares_by catalog i S.knows j n tid asked.start objects) is
       ∙ ap (prepares S.knows j n tid asked.start objects) (asked.clear is))) comes)
   prepared_by comes (Locked owner held) is =
       is_held owner held is (said catalog layout i S came prepare (back j (Vote n Yes)) tt
-      (prepare_rule ∙ ap (prepares_by S.knows j n tid asked.start objects) is) comes)
+      (prepare_rule ∙ ap (prepares_by catalog i S.knows j n tid asked.start objects) is) comes)
   prepared_by comes Over is = absurd (asked.alive is)
 
 pub entry_locked : (catalog : Catalog) (layout : Layout) (i : SiteId) (older : List Entry) (e : Entry) (j : SiteId) (n : ℕ)
@@ -189,8 +190,8 @@ entry_hindered catalog layout i older e j n start conflict right hindered =
     said catalog layout i S e.came (Deliver j hindered.number (Prepare n tid start objects))
     (back j (Vote n (answer_over S.knows start conflict))) tt
     (peer_rule catalog layout i S e.came j hindered.number (Prepare n tid start objects) hindered.at
-    ∙ (ap (λ b. if_lockable b S.knows j n tid start objects) hindered.lockable
-    ∙ (ap (prepares_by S.knows j n tid start objects) hindered.free
+    ∙ (ap (λ b. if_lockable b catalog i S.knows j n tid start objects) hindered.regular
+    ∙ (ap (prepares_by catalog i S.knows j n tid start objects) hindered.free
     ∙ ap (prepares S.knows j n tid start objects) hindered.met)))
     (given_comes catalog layout i older e (Deliver j hindered.number (Prepare n tid start objects)) right
     hindered.came)

@@ -32,6 +32,8 @@ pub enum Request {
     Abort,
     /// How far a transaction has come.
     Level(Tid),
+    /// The container is to be preferred at the site.
+    Handover(u32, SiteId),
 }
 
 /// A client's frame that spells no request.
@@ -60,6 +62,7 @@ impl Clone for Request {
             Request::Commit => Ok(Request::Commit),
             Request::Abort => Ok(Request::Abort),
             Request::Level(tid) => Ok(Request::Level(*tid)),
+            Request::Handover(container, to) => Ok(Request::Handover(*container, *to)),
         }
     }
 }
@@ -165,6 +168,12 @@ pub enum Refusal {
     WrongSite,
     /// No transaction of this name was started.
     NotIssued,
+    /// The container is preferred at this other site.
+    NotHolder { site: SiteId },
+    /// An object of the container is locked: the first one, and its owner.
+    Busy { oid: ObjId, owner: Tid },
+    /// The container can't be handed to that site.
+    BadTarget,
 }
 
 /// What a site journals.

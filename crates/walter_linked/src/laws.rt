@@ -6,6 +6,7 @@ ghost use Rattle.walter_base.specs.declared.names.SiteId.{SiteId};
 ghost use Rattle.walter_base.specs.declared.packet.Packet.TheVariants.{Propagate};
 ghost use Rattle.walter_base.specs.declared.transaction.Tx.{Tx};
 ghost use Rattle.walter_linked.specs.Catalogs.{IsWhole};
+ghost use Rattle.walter_linked.specs.Holders.{AreHeldOnce};
 ghost use Rattle.walter_linked.specs.Marks.{AreGotRight, AreMarksTrue};
 ghost use Rattle.walter_linked.specs.Senders.{IsCommitOf};
 ghost use Rattle.walter_rules.specs.declared.entry.Entry.{Entry};
@@ -13,12 +14,22 @@ ghost use Rattle.walter_rules.specs.declared.event.Event.TheVariants.{Given};
 ghost use Rattle.walter_rules.specs.declared.event.Input.TheVariants.{Deliver};
 ghost use Rattle.walter_rules.specs.Layouts.{Layout};
 ghost use Rattle.walter_rules.specs.Merges.{Named, merge};
-ghost use Rattle.walter_runs.specs.Runs.{AreRightTrails};
+ghost use Rattle.walter_runs.specs.Runs.{AreRightTrails, stands};
 
 /// What a site of right and linked trails has of another stands there as that one's own commit, by its number.
 pub fn holds_own_commits()
     ensures { (catalog : Catalog) (layouts : SiteId → Layout) (trails : List (List Entry)) → IsWhole catalog
         → AreRightTrails catalog layouts trails → AreGotRight catalog (reverse (merge trails)) }
+{}
+
+/// At each place of the merge of right and linked trails a container is preferred at one site at most, by what that
+/// site knows, and at none while a commit that hands it over hasn't come to its target; and such a commit has seen each
+/// other one of the container.
+pub fn containers_are_held_once()
+    ensures { (catalog : Catalog) (layouts : SiteId → Layout) (trails : List (List Entry)) → IsWhole catalog
+        → AreRightTrails catalog layouts trails
+        → (newer older : List Named) → reverse (merge trails) ≡ newer ++ older
+        → AreHeldOnce catalog (stands catalog older) }
 {}
 
 /// At each entry of the merge of right and linked trails another site's commit is committed only where it is durable,

@@ -3,11 +3,12 @@ use Rattle.std.proofs.Common.{◌≡◌, ◌≢◌, ℕ, ◌+◌, ◌-◌, ◌^�
 use Rattle.std.proofs.lemmas.Bool.{cases_lt}
 use Rattle.std.proofs.lemmas.List.{length-append, length-take, length-drop, length-replicate, take-append-drop, get_or_append_left, get_or-append_right, get_or_past, get_or-replicate}
 use Rattle.walter_base.specs.declared.names.ObjId.{ObjId}
+use Rattle.walter_base.specs.declared.names.SiteId.{SiteId}
 use Rattle.walter_fields.specs.Cursors.{LacksBlock}
 use Rattle.walter_fields.specs.Spellings.{IsBytes, number_spelled, number_read, block_spelled}
 use Rattle.walter_fields.proofs.Numbers.{number_read-lt, number_read-append, number_spelled-read}
 use Rattle.walter_fields.proofs.Readings.{IsBytes-take, IsBytes-drop}
-use Rattle.walter_names.specs.Names.{object_spelled, tid_spelled, version_spelled, member_spelled, IsObject, IsTid, IsVersion, IsMember}
+use Rattle.walter_names.specs.Names.{object_spelled, tid_spelled, version_spelled, member_spelled, move_spelled, IsObject, IsTid, IsVersion, IsMember, IsMove}
 
 -- the front of the spelling of a value, of which the end is cut off
 pub record IsCut {A : Type 0} (Is : A → Type 0) (spelled : A → List ℕ) (left : List ℕ) : Type 0 where
@@ -71,6 +72,20 @@ cut_version left fits few =
       ranges = (omega (arith, site), omega (arith, seq));
       some = some_zeros (9 - length left) (omega arith);
       spells = two_numbers 1 8 whole bytes (filled 9 left few);
+    }
+
+pub cut_move : (left : List ℕ) → IsBytes left → length left < 5 → IsCut (λ (m : ℕ × SiteId). IsMove m.0 m.1) (λ m. move_spelled m.0 m.1) left
+cut_move left fits few =
+    let whole = left ++ replicate (5 - length left) 0 in
+    let bytes : IsBytes whole = IsBytes-zeros left (5 - length left) fits in
+    let container = number_read-lt 4 (take 4 whole) (IsBytes-take 4 whole bytes) in
+    let to = number_read-lt 1 (drop 4 whole) (IsBytes-drop 4 whole bytes) in
+    record {
+      value = (number_read 4 (take 4 whole), record { 0 = number_read 1 (drop 4 whole) });
+      more = replicate (5 - length left) 0;
+      ranges = (omega (arith, container), omega (arith, to));
+      some = some_zeros (5 - length left) (omega arith);
+      spells = two_numbers 4 1 whole bytes (filled 5 left few);
     }
 
 pub cut_tid : (left : List ℕ) → IsBytes left → length left < 13 → IsCut IsTid tid_spelled left

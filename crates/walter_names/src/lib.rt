@@ -6,6 +6,6 @@ mod names;
 
 pub use laws::one_spelling;
 pub use names::{
-    read_member, read_object, read_tid, read_version, write_member, write_object, write_tid,
-    write_version,
+    read_member, read_move, read_object, read_tid, read_version, write_member, write_move,
+    write_object, write_tid, write_version,
 };

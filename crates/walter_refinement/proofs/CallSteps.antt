@@ -66,14 +66,14 @@ module _ (catalog : Catalog) (i : SiteId) (W : Stands) (put : Put) (h : List Ste
       (Replied reply) kept None None sends dropped none tt tt issued sessions flights sp
 
   pub refused : (refusal : Refusal) → Spells (at_site i (replied_so (Refused refusal)) W)
-      (h ++ (recorded W i None ++ answered i (W i) (Replied (Refused refusal)) (Given (Call client call))))
+      (h ++ (recorded W i None ++ answered i (W i) None (Replied (Refused refusal)) (Given (Call client call))))
   refused refusal = nothing (Refused refusal) [] refl
       (λ x g. issued_same (W i).up (W i).knows (replied_so (Refused refusal)).knows x refl (omega arith) g)
       (λ c s has. has) (λ s has. has)
 
   -- a Commit that still waits
   pub waits_on : (tid : Tid) → Spells (at_site i (replied_so (Deciding tid)) W)
-      (h ++ (recorded W i None ++ answered i (W i) (Replied (Deciding tid)) (Given (Call client call))))
+      (h ++ (recorded W i None ++ answered i (W i) None (Replied (Deciding tid)) (Given (Call client call))))
   waits_on tid =
       nothing (Deciding tid) [] refl (λ x g. issued_same (W i).up (W i).knows (replied_so (Deciding tid)).knows x refl
       (omega arith) g)
@@ -102,7 +102,7 @@ module _ (catalog : Catalog) (i : SiteId) (W : Stands) (put : Put) (h : List Ste
 
   -- the end of a transaction without updates
   pub ended : Spells (at_site i (replied_so Ended) W)
-      (h ++ (recorded W i None ++ answered i (W i) (Replied Ended) (Given (Call client call))))
+      (h ++ (recorded W i None ++ answered i (W i) None (Replied Ended) (Given (Call client call))))
   ended =
       nothing Ended [] refl (λ x g. issued_same (W i).up (W i).knows (replied_so Ended).knows x refl (omega arith) g)
       (λ c s has. (without_cases client c s (W i).knows.sessions has).1) (λ s has. has)
@@ -111,12 +111,13 @@ module _ (catalog : Catalog) (i : SiteId) (W : Stands) (put : Put) (h : List Ste
   pub aborted_so : (s : Session) (cause : Cause) → session_of (W i).knows client ≡ Some s
       → IsLive (owns W) (counts W) h s → IsCauseOfAbort s.tid h cause
       → Spells (at_site i (replied_so (Aborted cause)) W)
-      (h ++ (recorded W i None ++ answered i (W i) (Replied (Aborted cause)) (Given (Call client call))))
+      (h ++ (recorded W i None ++ answered i (W i) None (Replied (Aborted cause)) (Given (Call client call))))
   aborted_so s cause has live is =
       let S2 = replied_so (Aborted cause) in
       let q = goes_closed (Aborted cause) refl refl (λ x g. issued_same (W i).up (W i).knows S2.knows x refl
       (omega arith) g) in
-      let spelled : answered i (W i) (Replied (Aborted cause)) (Given (Call client call)) ≡ Abort s.tid cause ∷ [] =
+      let spelled : answered i (W i) None (Replied (Aborted cause))
+      (Given (Call client call)) ≡ Abort s.tid cause ∷ [] =
       ap (λ o. of_session (aborted cause) o) has in
       subst (λ t. Spells (at_site i S2 W) (h ++ t)) (sym spelled)
       (stepped W i S2 h (Abort s.tid cause) (λ x us e. absurd cc)
@@ -130,7 +131,7 @@ module _ (catalog : Catalog) (i : SiteId) (W : Stands) (put : Put) (h : List Ste
   pub done_so : (s : Session) (update : Update) → HasOpen (W i) client s → updated call s ≡ with_update update s
       → did call s ≡ Op s.tid update ∷ []
       → Spells (at_site i (replied_so Done) W)
-      (h ++ (recorded W i None ++ answered i (W i) (Replied Done) (Given (Call client call))))
+      (h ++ (recorded W i None ++ answered i (W i) None (Replied Done) (Given (Call client call))))
   done_so s update open_ becomes does =
       let S2 = replied_so Done in
       let mine : (w : ℕ) (t : Session) → held_by w S2 ≡ Some t → ((suc client ≡ w) × (with_update update s ≡ t))
@@ -159,7 +160,7 @@ module _ (catalog : Catalog) (i : SiteId) (W : Stands) (put : Put) (h : List Ste
         lost = λ n tx asked is. is;
         done = λ n tx is. is;
       } in
-      let spelled : answered i (W i) (Replied Done) (Given (Call client call)) ≡ Op s.tid update ∷ [] =
+      let spelled : answered i (W i) None (Replied Done) (Given (Call client call)) ≡ Op s.tid update ∷ [] =
       ap (λ o. of_session (did call) o) open_.session ∙ does in
       subst (λ t. Spells (at_site i S2 W) (h ++ t)) (sym spelled)
       (stepped W i S2 h (Op s.tid update) (λ x us e. absurd cc)
@@ -170,12 +171,12 @@ module _ (catalog : Catalog) (i : SiteId) (W : Stands) (put : Put) (h : List Ste
 
   -- a step that tells or reads something, where nothing that is held changes
   pub seen_so : (reply : Reply) (step : Step) → ((x : Tid) (us : List Update) → step ≢ Commit x us)
-      → answered i (W i) (Replied reply) (Given (Call client call)) ≡ step ∷ []
+      → answered i (W i) None (Replied reply) (Given (Call client call)) ≡ step ∷ []
       → IsQuiet (W i) (replied_so reply)
       → ((after : Key → Option Session) → IsFewer (held W) after → IsSpelledAt (owns W) (counts W) (numbers W) after
       (spent W) (h ++ step ∷ []))
       → Spells (at_site i (replied_so reply) W)
-      (h ++ (recorded W i None ++ answered i (W i) (Replied reply) (Given (Call client call))))
+      (h ++ (recorded W i None ++ answered i (W i) None (Replied reply) (Given (Call client call))))
   seen_so reply step plain spelled q does =
       let S2 = replied_so reply in
       subst (λ t. Spells (at_site i S2 W) (h ++ t)) (sym spelled)
@@ -196,10 +197,10 @@ module _ (catalog : Catalog) (i : SiteId) (W : Stands) (put : Put) (h : List Ste
   -- what a session reads
   pub read_so : (s : Session) (oid : ObjId) (a : Answer) (reply : Reply) → HasOpen (W i) client s
       → IsAnswer oid (read_updates (W i).knows s) a
-      → answered i (W i) (Replied reply) (Given (Call client call)) ≡ Read s.tid oid a ∷ []
+      → answered i (W i) None (Replied reply) (Given (Call client call)) ≡ Read s.tid oid a ∷ []
       → IsQuiet (W i) (replied_so reply)
       → Spells (at_site i (replied_so reply) W)
-      (h ++ (recorded W i None ++ answered i (W i) (Replied reply) (Given (Call client call))))
+      (h ++ (recorded W i None ++ answered i (W i) None (Replied reply) (Given (Call client call))))
   read_so s oid a reply open_ answer spelled q =
       let live = open_live s open_ in
       let here : s.tid.site ≡ i = sp.spelled.home (record { site = i; who = suc client }) s open_.session in
@@ -213,7 +214,7 @@ module _ (catalog : Catalog) (i : SiteId) (W : Stands) (put : Put) (h : List Ste
   -- a transaction starts
   pub started_so : (W i).up ≡ true → i.0 < catalog.sites → session_of (W i).knows client ≡ None
       → Spells (at_site i (replied_so (Started (next_tid i (W i).knows))) W)
-      (h ++ (recorded W i None ++ answered i (W i) (Replied (Started (next_tid i (W i).knows)))
+      (h ++ (recorded W i None ++ answered i (W i) None (Replied (Started (next_tid i (W i).knows)))
       (Given (Call client call))))
   started_so up below none =
       let x = next_tid i (W i).knows in

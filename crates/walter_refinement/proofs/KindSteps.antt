@@ -49,7 +49,7 @@ use Rattle.walter_agreement.proofs.Cases.{zero_or, low_or, same_open}
 use Rattle.walter_agreement.proofs.Issued.{IsIssued}
 use Rattle.walter_alone.proofs.Alone.{IsAlone, issued_by}
 use Rattle.walter_linked.proofs.Agreed.{Stands, Put, owns, counts, at_site, AreAgreed, IsOver, IsDueOwn}
-use Rattle.walter_refinement.specs.Spelled.{recorded as spelled_by, answered, of_session, told, saw, saw_set, saw_count}
+use Rattle.walter_refinement.specs.Spelled.{recorded as spelled_by, answered, opened, of_session, told, saw, saw_set, saw_count}
 use Rattle.walter_refinement.proofs.CallSteps.{aborted_so, done_so, seen_so, goes_same, goes_closed, read_so, open_live, replied_so}
 use Rattle.walter_refinement.proofs.Causes.{cause_there, over_here}
 use Rattle.walter_refinement.proofs.Entries.{did_tell_version, did_tell_level, did_deny}
@@ -73,7 +73,7 @@ module _ (catalog : Catalog) (i : SiteId) (W : Stands) (put : Put) (h : List Ste
   abbrev pub Keeps : Event → Outcome → Option Record → Option Record → Type 0
   Keeps event outcome wrote flight =
       Spells (at_site i (then_ catalog i (W i) event outcome kept wrote flight sends dropped) W)
-      (h ++ (spelled_by W i wrote ++ answered i (W i) outcome event))
+      (h ++ (opened i wrote outcome event ++ (spelled_by W i wrote ++ answered i (W i) wrote outcome event)))
 
   -- an update that was asked for
   pub updates_so : (client : ℕ) (call : Result Request BadFrame) (s : Session) (update : Update)
@@ -121,7 +121,7 @@ module _ (catalog : Catalog) (i : SiteId) (W : Stands) (put : Put) (h : List Ste
 
   -- a reply that tells how far an own commit has come
   tells_level_so : (client : ℕ) (tid : Tid) (seq : ℕ) (level : HowFar) (so : ToldLevel) → so ≢ ToldNotCommitted
-      → answered i (W i) (Replied (Level level)) (Given (Call client (Ok (LevelAsked tid)))) ≡ Told tid
+      → answered i (W i) None (Replied (Level level)) (Given (Call client (Ok (LevelAsked tid)))) ≡ Told tid
       (OfLevel so) ∷ [] → seq_of i (W i).knows tid ≡ Some seq
       → Keeps (Given (Call client (Ok (LevelAsked tid)))) (Replied (Level level)) None None
   tells_level_so client tid seq level so high spelled_ is =
@@ -154,11 +154,11 @@ module _ (catalog : Catalog) (i : SiteId) (W : Stands) (put : Put) (h : List Ste
       ]
 
   -- a reply that tells nothing
-  pub level_quiet : (client : ℕ) (tid : Tid) (level : HowFar) → answered i (W i) (Replied (Level level))
+  pub level_quiet : (client : ℕ) (tid : Tid) (level : HowFar) → answered i (W i) None (Replied (Level level))
       (Given (Call client (Ok (LevelAsked tid)))) ≡ [] → Keeps (Given (Call client (Ok (LevelAsked tid))))
       (Replied (Level level)) None None
   level_quiet client tid level none =
-      quiet_entry catalog i W h (spelled_by W i None ++ answered i (W i) (Replied (Level level))
+      quiet_entry catalog i W h (spelled_by W i None ++ answered i (W i) None (Replied (Level level))
       (Given (Call client (Ok (LevelAsked tid))))) (Given (Call client (Ok (LevelAsked tid))))
       (Replied (Level level)) kept None None sends dropped none tt tt
       (λ x g. issued_same (W i).up (W i).knows (then_ catalog i (W i) (Given (Call client (Ok (LevelAsked tid))))
@@ -297,6 +297,6 @@ module _ (catalog : Catalog) (i : SiteId) (W : Stands) (put : Put) (h : List Ste
       let one : tx_of w.1 ≡ tx = same_open ((W i).knows.slow w.1.slow) (tx_of w.1) tx asked mine
       (ap (λ m. (W i).knows.slow m) w.3 ∙ undecided) in
       subst (λ x. Keeps (Given (Deliver p number (Vote n Yes))) Taken (Some (Own (next_seq i (W i).knows) x)) None) one
-      (decided_so catalog i W put h (alone i) G sp kept sends dropped p number n
+      (decided_so catalog i W put h G sp kept sends dropped p number n
       (next_seq i (W i).knows) w.0 w.1 w.2 some (subst (λ x. IsDueOwn catalog W i (next_seq i (W i).knows) x)
       (sym one) due))

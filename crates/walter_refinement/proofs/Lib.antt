@@ -18,6 +18,7 @@ pub mod Flights
 pub mod Causes
 pub mod Names
 pub mod KindSteps
+pub mod Handed
 pub mod RunSteps
 pub mod RunSpells
 pub mod Once

@@ -114,7 +114,7 @@ module _ (W : Stands) (i : SiteId) (S : Standing) where
     | inr away ↦ ap (λ z. held_by d.who z) (sym away.1) ∙ has
   ]
 
-  still_spent : GoesOn (W i) S → (d : Key) (t : Session) → held (at_site i S W) d ≡ Some t → spent W d
+  pub still_spent : GoesOn (W i) S → (d : Key) (t : Session) → held (at_site i S W) d ≡ Some t → spent W d
       → spent (at_site i S W) d
   still_spent on d t has gone = elim (views (λ z. z) d.site) [
     | inl here ↦
@@ -136,13 +136,13 @@ module _ (W : Stands) (i : SiteId) (S : Standing) where
     | inr away ↦ subst (λ z. spent_by d.who z) (sym away.1) gone
   ]
 
-  same_owns : HasSame i (W i) S → (k : SiteId) → owns (at_site i S W) k ≡ owns W k
+  pub same_owns : HasSame i (W i) S → (k : SiteId) → owns (at_site i S W) k ≡ owns W k
   same_owns same k = elim (views (λ z. of_site k z.knows.log) k) [
     | inl here ↦ here.1 ∙ subst (λ j. of_site j S.knows.log ≡ owns W j) here.0 same.owned
     | inr away ↦ ap (λ (z : Standing). of_site k z.knows.log) away.1
   ]
 
-  same_counts : HasSame i (W i) S → (j k : SiteId) → counts (at_site i S W) j k ≡ counts W j k
+  pub same_counts : HasSame i (W i) S → (j k : SiteId) → counts (at_site i S W) j k ≡ counts W j k
   same_counts same j k = elim (views (λ z. z.knows.committed k) j) [
     | inl here ↦ here.1 ∙ subst (λ a. S.knows.committed k ≡ counts W a k) here.0 (same.committed k)
     | inr away ↦ ap (λ (z : Standing). z.knows.committed k) away.1

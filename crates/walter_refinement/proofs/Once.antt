@@ -23,7 +23,7 @@ use Rattle.walter_rules.specs.Standing.{Standing, records_after, settled, stands
 use Rattle.walter_runs.specs.Runs.{stands, IsPut, IsRun}
 use Rattle.walter_agreement.proofs.Cases.{site_cases}
 use Rattle.walter_agreement.proofs.Lists.{filter_push_kept, filter_push_left}
-use Rattle.walter_alone.proofs.Alone.{home}
+use Rattle.walter_alone.proofs.Alone.{HasHomes}
 use Rattle.walter_alone.proofs.KeptSteps.{right_alone, settled_alone}
 use Rattle.walter_linked.proofs.Agreed.{Stands, Put, owns, AreAgreed, IsDue}
 use Rattle.walter_linked.proofs.Runs.{found, found_here, stands_here, stands_away, found_away, run_agrees, settled_agrees, kept_due, wrote_due}
@@ -152,7 +152,7 @@ tells_more i records log None of is = is
 tells_more i records log (Some r) of is = owned_push records r
     ∙ (ap (λ t. t ++ own_in r) is ∙ sym (log_more i log r (of r refl)))
 
-module _ (catalog : Catalog) (layouts : SiteId → Layout) (homes : (oid : ObjId) → (home catalog oid).0 < catalog.sites) where
+module _ (catalog : Catalog) (layouts : SiteId → Layout) (homes : HasHomes catalog) where
   -- behind what was found
   tells_found : (older : List Named) (n : Named) (is : IsRun catalog layouts (n ∷ older)) (kept : Option Record)
       → ((r : Record) → kept ≡ Some r → IsOfSite n.0 r) → owned_in (stands catalog older n.0).records ≡ owns

@@ -19,7 +19,7 @@ use Rattle.walter_rules.specs.declared.event.Event.TheVariants.{Given, Stop, Res
 use Rattle.walter_rules.specs.declared.event.Input.TheVariants.{Call, Deliver, Advance, Tick, Upgrade}
 use Rattle.walter_rules.specs.declared.outcome.Outcome.{Outcome}
 use Rattle.walter_rules.specs.declared.outcome.Outcome.TheVariants.{Replied, Failed, Full, Memory}
-use Rattle.walter_rules.specs.Allowed.{IsKind, is_refused, starts, does, reads, ends, aborts, conflicts, commits, begins, waits, tells_version, tells_cause, levels_own, is_deciding, is_running, denies, passes, receives, hears_ack, hears_durable, hears_visible, marks_durable, marks_visible, prepares, hears_yes, decides, gives_up, releases, hears_released, sees, upgrades, stops, is_down, boots}
+use Rattle.walter_rules.specs.Allowed.{IsKind, is_refused, starts, does, reads, ends, aborts, conflicts, commits, begins, moves, waits, tells_version, tells_cause, levels_own, is_deciding, is_running, denies, passes, receives, hears_ack, hears_durable, hears_visible, marks_durable, marks_visible, prepares, hears_yes, decides, gives_up, releases, hears_released, sees, upgrades, stops, is_down, boots}
 use Rattle.walter_rules.specs.Sending.{Send}
 use Rattle.walter_rules.specs.Calls.{next_seq}
 use Rattle.walter_rules.specs.Marks.{durable_mark, visible_mark}
@@ -34,6 +34,7 @@ use Rattle.walter_linked.proofs.Agreed.{Stands, Put, owns, counts, at_site, AreA
 use Rattle.walter_refinement.proofs.CallSteps.{refused, waits_on, ended, aborted_so, started_so, open_live}
 use Rattle.walter_refinement.proofs.Flights.{begun_so, own_flies}
 use Rattle.walter_refinement.proofs.Going.{then_}
+use Rattle.walter_refinement.proofs.Handed.{moves_so, moves_fly}
 use Rattle.walter_refinement.proofs.KindSteps.{Keeps, updates_so, reads_so, levels_so, level_quiet, denies_so, tells_version_so, tells_cause_so, conflicts_so, decides_so}
 use Rattle.walter_refinement.proofs.Moves.{in_flight, Spells}
 use Rattle.walter_refinement.proofs.Others.{stays, falls, passed, was_down, taken, stopped, booted}
@@ -72,9 +73,11 @@ module _ (catalog : Catalog) (i : SiteId) (W : Stands) (put : Put) (h : List Ste
   kind_keeps event wrote outcome (conflicts client s conflict open_ first) due numbered =
       conflicts_so catalog i W put h below alone G sp kept sends dropped client s conflict open_ first
   kind_keeps event wrote outcome (commits client s open_ some local clear) due numbered =
-      committed_so catalog i W put h (alone i) G sp kept sends dropped client s _ open_ due numbered
+      committed_so catalog i W put h G sp kept sends dropped client s _ open_ due numbered
   kind_keeps event wrote outcome (begins client s open_ some clear) due numbered =
       begun_so catalog i W put h (alone i) G sp client s kept sends dropped open_
+  kind_keeps event wrote outcome (moves client container to may) due numbered =
+      moves_so catalog i W put h below (alone i) G sp may.up container to client kept sends dropped numbered
   kind_keeps event wrote outcome (waits client s tx asked begun_ undecided) due numbered =
       waits_on catalog i W put h (alone i) G sp client (Ok CommitAsked) kept sends dropped s.tid
   kind_keeps event wrote outcome (tells_version client s tx seq begun_ decided is) due numbered =
@@ -118,7 +121,7 @@ module _ (catalog : Catalog) (i : SiteId) (W : Stands) (put : Put) (h : List Ste
   kind_keeps event wrote outcome (hears_released j number n peer) due numbered =
       taken catalog i W h sp kept sends dropped (Deliver j number (ReleasedSaid n)) None tt tt refl
   kind_keeps event wrote outcome (sees j tx peer due_there) due numbered =
-      seen_so catalog i W put h (alone i) G sp kept sends dropped j _ due
+      seen_so catalog i W put h G sp kept sends dropped j _ due
   kind_keeps event wrote outcome (stops up) due numbered = stopped catalog i W h sp kept sends dropped
   kind_keeps event wrote outcome (upgrades up first) due numbered =
       taken catalog i W h sp kept sends dropped Upgrade (Some FormatRecord) tt tt refl
@@ -152,6 +155,8 @@ module _ (catalog : Catalog) (i : SiteId) (W : Stands) (put : Put) (h : List Ste
       falls catalog i W h sp (Given (Call client (Ok CommitAsked)))
       (Replied (Unsure s.tid)) kept sends dropped wrote tt refl
       (λ t has. absurd (let clash : ◌≡◌ {A = Option Session} None (Some t) = has in cc))
+  kind_flies event wrote outcome (moves client container to may) due =
+      moves_fly catalog i W put h below (alone i) G sp may.up container to client kept sends dropped
   kind_flies event wrote outcome (waits client s tx asked begun_ undecided) due = tt
   kind_flies event wrote outcome (tells_version client s tx seq begun_ decided is) due = tt
   kind_flies event wrote outcome (tells_cause client s tx asked conflict begun_ lost said) due = tt

@@ -29,33 +29,34 @@ IsMute Memory = Unit {0}
 IsMute Down = Unit {0}
 IsMute RefusedThere = Unit {0}
 
-pub mute_spells : (i : SiteId) (S : Standing) (outcome : Outcome) (event : Event) → IsMute outcome
-    → answered i S outcome event ≡ []
-mute_spells i S (Replied (Started tid)) (Given (Call client call)) mute = absurd mute
-mute_spells i S (Replied (Value value)) (Given (Call client call)) mute = absurd mute
-mute_spells i S (Replied Done) (Given (Call client call)) mute = absurd mute
-mute_spells i S (Replied (Set counts)) (Given (Call client call)) mute = absurd mute
-mute_spells i S (Replied (Count n)) (Given (Call client call)) mute = absurd mute
-mute_spells i S (Replied (Committed version)) (Given (Call client call)) mute = absurd mute
-mute_spells i S (Replied (Aborted cause)) (Given (Call client call)) mute = absurd mute
-mute_spells i S (Replied (Deciding tid)) (Given (Call client call)) mute = absurd mute
-mute_spells i S (Replied (Level level)) (Given (Call client call)) mute = absurd mute
-mute_spells i S (Replied Ended) (Given (Call client call)) mute = absurd mute
-mute_spells i S (Replied (Refused refusal)) (Given (Call client call)) mute = refl
-mute_spells i S (Replied (Unsure tid)) (Given (Call client call)) mute = refl
-mute_spells i S Taken (Given (Call client call)) mute = refl
-mute_spells i S Passed (Given (Call client call)) mute = refl
-mute_spells i S Failed (Given (Call client call)) mute = refl
-mute_spells i S (Full need left) (Given (Call client call)) mute = refl
-mute_spells i S Memory (Given (Call client call)) mute = refl
-mute_spells i S Down (Given (Call client call)) mute = refl
-mute_spells i S RefusedThere (Given (Call client call)) mute = refl
-mute_spells i S outcome (Given (Deliver from number packet)) mute = refl
-mute_spells i S outcome (Given (Advance from)) mute = refl
-mute_spells i S outcome (Given Tick) mute = refl
-mute_spells i S outcome (Given Upgrade) mute = refl
-mute_spells i S outcome Stop mute = refl
-mute_spells i S outcome Restart mute = refl
+pub mute_spells : (i : SiteId) (S : Standing) (wrote : Option Record) (outcome : Outcome) (event : Event)
+    → IsMute outcome
+    → answered i S wrote outcome event ≡ []
+mute_spells i S wrote (Replied (Started tid)) (Given (Call client call)) mute = absurd mute
+mute_spells i S wrote (Replied (Value value)) (Given (Call client call)) mute = absurd mute
+mute_spells i S wrote (Replied Done) (Given (Call client call)) mute = absurd mute
+mute_spells i S wrote (Replied (Set counts)) (Given (Call client call)) mute = absurd mute
+mute_spells i S wrote (Replied (Count n)) (Given (Call client call)) mute = absurd mute
+mute_spells i S wrote (Replied (Committed version)) (Given (Call client call)) mute = absurd mute
+mute_spells i S wrote (Replied (Aborted cause)) (Given (Call client call)) mute = absurd mute
+mute_spells i S wrote (Replied (Deciding tid)) (Given (Call client call)) mute = absurd mute
+mute_spells i S wrote (Replied (Level level)) (Given (Call client call)) mute = absurd mute
+mute_spells i S wrote (Replied Ended) (Given (Call client call)) mute = absurd mute
+mute_spells i S wrote (Replied (Refused refusal)) (Given (Call client call)) mute = refl
+mute_spells i S wrote (Replied (Unsure tid)) (Given (Call client call)) mute = refl
+mute_spells i S wrote Taken (Given (Call client call)) mute = refl
+mute_spells i S wrote Passed (Given (Call client call)) mute = refl
+mute_spells i S wrote Failed (Given (Call client call)) mute = refl
+mute_spells i S wrote (Full need left) (Given (Call client call)) mute = refl
+mute_spells i S wrote Memory (Given (Call client call)) mute = refl
+mute_spells i S wrote Down (Given (Call client call)) mute = refl
+mute_spells i S wrote RefusedThere (Given (Call client call)) mute = refl
+mute_spells i S wrote outcome (Given (Deliver from number packet)) mute = refl
+mute_spells i S wrote outcome (Given (Advance from)) mute = refl
+mute_spells i S wrote outcome (Given Tick) mute = refl
+mute_spells i S wrote outcome (Given Upgrade) mute = refl
+mute_spells i S wrote outcome Stop mute = refl
+mute_spells i S wrote outcome Restart mute = refl
 
 -- a record that commits nothing here spells nothing
 pub still_spells : (W : SiteId → Standing) (i : SiteId) (rec : Option Record) → IsStill i rec → recorded W i rec ≡ []

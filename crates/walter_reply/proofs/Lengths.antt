@@ -5,8 +5,8 @@ use Rattle.std.proofs.lemmas.List.{length-append}
 use Rattle.walter_base.specs.Sizes.{IsShortReply}
 use Rattle.walter_base.specs.declared.message.Reply.{Reply}
 use Rattle.walter_base.specs.declared.message.Reply.TheVariants.{Started, Value, Done, Set, Count, Committed, Aborted, Deciding, Level, Ended, Unsure, Refused}
-use Rattle.walter_base.specs.declared.message.Refusal.TheVariants.{Gone, BadFrame, JournalFull}
-use Rattle.walter_base.specs.declared.transaction.Cause.TheVariants.{Modified, Locked, Asked}
+use Rattle.walter_base.specs.declared.message.Refusal.TheVariants.{Gone, BadFrame, JournalFull, NotHolder, Busy}
+use Rattle.walter_base.specs.declared.transaction.Cause.TheVariants.{Modified, Locked, Asked, Moving}
 use Rattle.walter_fields.specs.Spellings.{number_spelled, signed_spelled, block_spelled}
 use Rattle.walter_fields.proofs.Numbers.{length-number_spelled}
 use Rattle.walter_names.specs.Names.{object_spelled, tid_spelled, version_spelled}
@@ -62,6 +62,7 @@ length-reply_spelled (Aborted (Locked oid owner)) =
       length-tid_spelled owner,
     )
 length-reply_spelled (Aborted Asked) = two_bytes 0x86 3 []
+length-reply_spelled (Aborted (Moving oid)) = omega (arith, two_bytes 0x86 4 (object_spelled oid), length-object_spelled oid)
 length-reply_spelled (Level level) =
     omega (arith, length-append (number_spelled 1 0x88) (number_spelled 1 (level_number level)), length-number_spelled 1 0x88, length-number_spelled 1 (level_number level))
 length-reply_spelled Ended = length-number_spelled 1 _
@@ -76,6 +77,15 @@ length-reply_spelled (Refused (JournalFull need left)) =
       length-append (number_spelled 8 need) (number_spelled 8 left),
       length-number_spelled 8 need,
       length-number_spelled 8 left,
+    )
+length-reply_spelled (Refused (NotHolder site)) = omega (arith, two_bytes 0xE0 16 (number_spelled 1 site.0), length-number_spelled 1 site.0)
+length-reply_spelled (Refused (Busy oid owner)) =
+    omega (
+      arith,
+      two_bytes 0xE0 17 (object_spelled oid ++ tid_spelled owner),
+      length-append (object_spelled oid) (tid_spelled owner),
+      length-object_spelled oid,
+      length-tid_spelled owner,
     )
 length-reply_spelled (Refused why) = two_bytes 0xE0 (refusal_number why) []
 

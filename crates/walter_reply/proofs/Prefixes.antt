@@ -4,11 +4,11 @@ use Rattle.std.specs.Prelude.{Some, None}
 use Rattle.walter_base.specs.declared.message.Level.{Level as HowFar}
 use Rattle.walter_base.specs.declared.message.Level.TheVariants as reached
 use Rattle.walter_base.specs.declared.message.Refusal.{Refusal}
-use Rattle.walter_base.specs.declared.message.Refusal.TheVariants.{UnknownContainer, WrongKind, TxFull, TooLong, NoTx, TxOpen, Gone, BadFrame, Down, JournalFull, SetTooWide, SessionsFull, Memory, WrongSite, NotIssued}
+use Rattle.walter_base.specs.declared.message.Refusal.TheVariants.{UnknownContainer, WrongKind, TxFull, TooLong, NoTx, TxOpen, Gone, BadFrame, Down, JournalFull, SetTooWide, SessionsFull, Memory, WrongSite, NotIssued, NotHolder, Busy, BadTarget}
 use Rattle.walter_base.specs.declared.message.Reply.{Reply}
 use Rattle.walter_base.specs.declared.message.Reply.TheVariants.{Started, Value, Done, Set, Count, Committed, Aborted, Deciding, Level, Ended, Unsure, Refused}
 use Rattle.walter_base.specs.declared.transaction.Cause.{Cause}
-use Rattle.walter_base.specs.declared.transaction.Cause.TheVariants.{Modified, Locked, Asked}
+use Rattle.walter_base.specs.declared.transaction.Cause.TheVariants.{Modified, Locked, Asked, Moving}
 use Rattle.walter_fields.specs.Spellings.{number_spelled, signed_spelled, block_spelled}
 use Rattle.walter_fields.proofs.Numbers.{number_spelled-byte, same_number}
 use Rattle.walter_fields.proofs.Readings.{same_block, same_signed}
@@ -81,6 +81,7 @@ pub cause_number-lt : (why : Cause) → cause_number why < 256
 cause_number-lt (Modified oid version) = omega arith
 cause_number-lt (Locked oid owner) = omega arith
 cause_number-lt Asked = omega arith
+cause_number-lt (Moving oid) = omega arith
 
 pub level_number-lt : (level : HowFar) → level_number level < 256
 level_number-lt reached.NotCommitted = omega arith
@@ -90,10 +91,10 @@ level_number-lt reached.Committed = omega arith
 level_number-lt reached.Durable = omega arith
 level_number-lt reached.Visible = omega arith
 
--- the numbers of refusals are those from 1 to 15
+-- the numbers of refusals are those from 1 to 18
 pub record IsRefusalNumber (n : ℕ) : Type 0 where
   pub some : 1 ≤ n
-  pub most : n ≤ 15
+  pub most : n ≤ 18
 
 pub refusal_number-known : (why : Refusal) → IsRefusalNumber (refusal_number why)
 refusal_number-known UnknownContainer = record { some = omega arith; most = omega arith }
@@ -111,6 +112,9 @@ refusal_number-known SessionsFull = record { some = omega arith; most = omega ar
 refusal_number-known Memory = record { some = omega arith; most = omega arith }
 refusal_number-known WrongSite = record { some = omega arith; most = omega arith }
 refusal_number-known NotIssued = record { some = omega arith; most = omega arith }
+refusal_number-known (NotHolder site) = record { some = omega arith; most = omega arith }
+refusal_number-known (Busy oid owner) = record { some = omega arith; most = omega arith }
+refusal_number-known BadTarget = record { some = omega arith; most = omega arith }
 
 pub refusal_number-lt : (why : Refusal) → refusal_number why < 256
 refusal_number-lt why = omega (arith, (refusal_number-known why).most)
@@ -125,6 +129,7 @@ same_cause (Locked a v) (Locked b w) x y same fits_a fits_b e =
     let two = same_tid v w x y fits_a.1 fits_b.1 one.1 in
     ((λ i. Locked (one.0 i) (two.0 i)), two.1)
 same_cause Asked Asked x y same fits_a fits_b e = (refl, e)
+same_cause (Moving a) (Moving b) x y same fits_a fits_b e = let parts = same_object a b x y fits_a fits_b e in ((λ i. Moving (parts.0 i)), parts.1)
 same_cause _ _ x y same fits_a fits_b e = absurd (omega (arith, same))
 
 same_level : (a b : HowFar) → level_number a ≡ level_number b → a ≡ b
@@ -155,6 +160,13 @@ same_refusal SessionsFull SessionsFull x y same fits_a fits_b e = (refl, e)
 same_refusal Memory Memory x y same fits_a fits_b e = (refl, e)
 same_refusal WrongSite WrongSite x y same fits_a fits_b e = (refl, e)
 same_refusal NotIssued NotIssued x y same fits_a fits_b e = (refl, e)
+same_refusal (NotHolder a) (NotHolder b) x y same fits_a fits_b e =
+    let parts = same_number 1 a.0 b.0 x y (omega (arith, fits_a)) (omega (arith, fits_b)) e in ((λ i. NotHolder (record { 0 = parts.0 i })), parts.1)
+same_refusal (Busy a v) (Busy b w) x y same fits_a fits_b e =
+    let one = same_object a b (tid_spelled v ++ x) (tid_spelled w ++ y) fits_a.0 fits_b.0 (regrouped (object_spelled a) (tid_spelled v) x (object_spelled b) (tid_spelled w) y e) in
+    let two = same_tid v w x y fits_a.1 fits_b.1 one.1 in
+    ((λ i. Busy (one.0 i) (two.0 i)), two.1)
+same_refusal BadTarget BadTarget x y same fits_a fits_b e = (refl, e)
 same_refusal _ _ x y same fits_a fits_b e = absurd (omega (arith, same))
 
 -- a value that is there, behind its flag

@@ -4,11 +4,11 @@ use Rattle.std.specs.Int.{w64}
 use Rattle.walter_base.specs.declared.message.Level.{Level as HowFar}
 use Rattle.walter_base.specs.declared.message.Level.TheVariants as reached
 use Rattle.walter_base.specs.declared.message.Refusal.{Refusal}
-use Rattle.walter_base.specs.declared.message.Refusal.TheVariants.{UnknownContainer, WrongKind, TxFull, TooLong, NoTx, TxOpen, Gone, BadFrame, Down, JournalFull, SetTooWide, SessionsFull, Memory, WrongSite, NotIssued}
+use Rattle.walter_base.specs.declared.message.Refusal.TheVariants.{UnknownContainer, WrongKind, TxFull, TooLong, NoTx, TxOpen, Gone, BadFrame, Down, JournalFull, SetTooWide, SessionsFull, Memory, WrongSite, NotIssued, NotHolder, Busy, BadTarget}
 use Rattle.walter_base.specs.declared.message.Reply.{Reply}
 use Rattle.walter_base.specs.declared.message.Reply.TheVariants.{Started, Value, Done, Set, Count, Committed, Aborted, Deciding, Level, Ended, Unsure, Refused}
 use Rattle.walter_base.specs.declared.transaction.Cause.{Cause}
-use Rattle.walter_base.specs.declared.transaction.Cause.TheVariants.{Modified, Locked, Asked}
+use Rattle.walter_base.specs.declared.transaction.Cause.TheVariants.{Modified, Locked, Asked, Moving}
 use Rattle.walter_fields.specs.Spellings.{number_spelled, signed_spelled, block_spelled}
 use Rattle.walter_names.specs.Names.{object_spelled, tid_spelled, version_spelled, IsObject, IsTid, IsVersion}
 use Rattle.walter_reply.specs.Sets.{counts_spelled, AreRightCounts, IsBadCounts}
@@ -20,11 +20,13 @@ abbrev pub cause_number : Cause → ℕ
 cause_number (Modified oid version) = 1
 cause_number (Locked oid owner) = 2
 cause_number Asked = 3
+cause_number (Moving oid) = 4
 
 abbrev pub cause_fields : Cause → List ℕ
 cause_fields (Modified oid version) = object_spelled oid ++ version_spelled version
 cause_fields (Locked oid owner) = object_spelled oid ++ tid_spelled owner
 cause_fields Asked = []
+cause_fields (Moving oid) = object_spelled oid
 
 abbrev pub cause_spelled : Cause → List ℕ
 cause_spelled cause = number_spelled 1 (cause_number cause) ++ cause_fields cause
@@ -55,11 +57,16 @@ refusal_number SessionsFull = 12
 refusal_number Memory = 13
 refusal_number WrongSite = 14
 refusal_number NotIssued = 15
+refusal_number (NotHolder site) = 16
+refusal_number (Busy oid owner) = 17
+refusal_number BadTarget = 18
 
 abbrev pub refusal_fields : Refusal → List ℕ
 refusal_fields (Gone tid) = tid_spelled tid
 refusal_fields (BadFrame at) = number_spelled 4 at
 refusal_fields (JournalFull need left) = number_spelled 8 need ++ number_spelled 8 left
+refusal_fields (NotHolder site) = number_spelled 1 site.0
+refusal_fields (Busy oid owner) = object_spelled oid ++ tid_spelled owner
 refusal_fields refusal = []
 
 abbrev pub refusal_spelled : Refusal → List ℕ
@@ -92,6 +99,7 @@ size_of (Committed version) = 10
 size_of (Aborted (Modified oid version)) = 23
 size_of (Aborted (Locked oid owner)) = 27
 size_of (Aborted Asked) = 2
+size_of (Aborted (Moving oid)) = 14
 size_of (Level level) = 2
 size_of Ended = 1
 size_of (Deciding tid) = 14
@@ -99,6 +107,8 @@ size_of (Unsure tid) = 14
 size_of (Refused (Gone tid)) = 15
 size_of (Refused (BadFrame at)) = 6
 size_of (Refused (JournalFull need left)) = 18
+size_of (Refused (NotHolder site)) = 3
+size_of (Refused (Busy oid owner)) = 27
 size_of (Refused refusal) = 2
 
 -- the numbers of a reply are in the ranges of their fields
@@ -106,11 +116,14 @@ abbrev pub IsCause : Cause → Type 0
 IsCause (Modified oid version) = IsObject oid × IsVersion version
 IsCause (Locked oid owner) = IsObject oid × IsTid owner
 IsCause Asked = Unit {0}
+IsCause (Moving oid) = IsObject oid
 
 abbrev pub IsRefusal : Refusal → Type 0
 IsRefusal (Gone tid) = IsTid tid
 IsRefusal (BadFrame at) = at < 2 ^ 32
 IsRefusal (JournalFull need left) = (need < 2 ^ 64) × (left < 2 ^ 64)
+IsRefusal (NotHolder site) = site.0 < 2 ^ 8
+IsRefusal (Busy oid owner) = IsObject oid × IsTid owner
 IsRefusal refusal = Unit {0}
 
 -- and the entries of a Set are right, and at most 4,095

@@ -8,7 +8,7 @@ ghost use Rattle.walter_reply.specs.Stops.{EndsWith, StopsBehind, StopsAt};
 
 use crate::fault::{ReplyFault, Stop};
 use std::alloc::Global;
-use walter_base::{Cause, Counts, Level, Refusal, Reply, SharedBytes};
+use walter_base::{Cause, Counts, Level, Refusal, Reply, SharedBytes, SiteId};
 use walter_fields::Cursor;
 use walter_names::{read_object, read_tid, read_version};
 
@@ -149,6 +149,10 @@ fn read_aborted(cursor: &mut Cursor) -> Result<Reply, Stop>
             Ok(Reply::Aborted(Cause::Locked { oid, owner }))
         }
         3 => Ok(Reply::Aborted(Cause::Asked)),
+        4 => {
+            let oid = read_object(cursor)?;
+            Ok(Reply::Aborted(Cause::Moving { oid }))
+        }
         _ => Err(Stop::Unknown(1)),
     }
 }
@@ -216,6 +220,16 @@ fn read_refused(cursor: &mut Cursor) -> Result<Reply, Stop>
         13 => Ok(Reply::Refused(Refusal::Memory)),
         14 => Ok(Reply::Refused(Refusal::WrongSite)),
         15 => Ok(Reply::Refused(Refusal::NotIssued)),
+        16 => {
+            let site = cursor.u8()?;
+            Ok(Reply::Refused(Refusal::NotHolder { site: SiteId(site) }))
+        }
+        17 => {
+            let oid = read_object(cursor)?;
+            let owner = read_tid(cursor)?;
+            Ok(Reply::Refused(Refusal::Busy { oid, owner }))
+        }
+        18 => Ok(Reply::Refused(Refusal::BadTarget)),
         _ => Err(Stop::Unknown(1)),
     }
 }

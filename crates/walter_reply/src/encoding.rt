@@ -15,6 +15,7 @@ fn number_of_cause(cause: Cause) -> u8
         Cause::Modified { oid: _, version: _ } => 1,
         Cause::Locked { oid: _, owner: _ } => 2,
         Cause::Asked => 3,
+        Cause::Moving { oid: _ } => 4,
     }
 }
 
@@ -50,6 +51,9 @@ fn number_of_refusal(refusal: Refusal) -> u8
         Refusal::Memory => 13,
         Refusal::WrongSite => 14,
         Refusal::NotIssued => 15,
+        Refusal::NotHolder { site: _ } => 16,
+        Refusal::Busy { oid: _, owner: _ } => 17,
+        Refusal::BadTarget => 18,
     }
 }
 
@@ -71,6 +75,7 @@ fn append_cause(out: &mut Appender, cause: Cause)
             write_tid(out, owner);
         }
         Cause::Asked => {}
+        Cause::Moving { oid } => write_object(out, oid),
     }
 }
 
@@ -88,6 +93,11 @@ fn append_refusal(out: &mut Appender, refusal: Refusal)
         Refusal::JournalFull { need, left } => {
             out.u64(need);
             out.u64(left);
+        }
+        Refusal::NotHolder { site } => out.u8(site.0),
+        Refusal::Busy { oid, owner } => {
+            write_object(out, oid);
+            write_tid(out, owner);
         }
         _ => {}
     }
@@ -133,9 +143,12 @@ pub fn size_of(reply: &Reply) -> usize
         Reply::Committed(_) => 10,
         Reply::Aborted(Cause::Modified { oid: _, version: _ }) => 23,
         Reply::Aborted(Cause::Locked { oid: _, owner: _ }) => 27,
+        Reply::Aborted(Cause::Moving { oid: _ }) => 14,
         Reply::Refused(Refusal::Gone { tid: _ }) => 15,
         Reply::Refused(Refusal::BadFrame { at: _ }) => 6,
         Reply::Refused(Refusal::JournalFull { need: _, left: _ }) => 18,
+        Reply::Refused(Refusal::NotHolder { site: _ }) => 3,
+        Reply::Refused(Refusal::Busy { oid: _, owner: _ }) => 27,
         Reply::Refused(_) => 2,
     }
 }

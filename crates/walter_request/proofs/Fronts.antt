@@ -2,14 +2,14 @@
 use Rattle.std.proofs.Common.{◌≡◌, ◌≢◌, ℕ, ◌^◌, ◌<◌, List, [], ◌++◌, length, refl, sym, ap, subst, ◌∙◌, append_assoc, arith}
 use Rattle.std.proofs.lemmas.List.{length-append, nil_from_length}
 use Rattle.walter_base.specs.declared.message.Request.{Request}
-use Rattle.walter_base.specs.declared.message.Request.TheVariants.{Start, Read, Write, SetRead, Level}
+use Rattle.walter_base.specs.declared.message.Request.TheVariants.{Start, Read, Write, SetRead, Level, Handover}
 use Rattle.walter_base.specs.declared.names.ObjId.{ObjId}
 use Rattle.walter_fields.specs.Cursors.{Remainder, Takes, LacksBlock}
 use Rattle.walter_fields.specs.Spellings.{IsBytes, number_spelled, block_spelled}
 use Rattle.walter_fields.proofs.Numbers.{length-number_spelled, number_spelled-byte}
 use Rattle.walter_fields.proofs.Readings.{IsBytes-behind, Takes-then}
-use Rattle.walter_names.specs.Names.{object_spelled, tid_spelled, IsObject, member_spelled, IsMember}
-use Rattle.walter_names.proofs.Cuts.{cut_object, cut_tid, cut_member, cut_block}
+use Rattle.walter_names.specs.Names.{object_spelled, tid_spelled, IsObject, member_spelled, IsMember, move_spelled}
+use Rattle.walter_names.proofs.Cuts.{cut_object, cut_tid, cut_member, cut_move, cut_block}
 use Rattle.walter_request.specs.Requests.{request_spelled, IsRequest, IsOperation}
 use Rattle.walter_request.specs.Stops.{IsFront, StartsUnknown, LeavesSome, with_operation}
 
@@ -60,6 +60,11 @@ cut_write_block left mid oid fits is lacks bytes =
 
 pub cut_level : (left : List ℕ) → length left < 13 → IsBytes (number_spelled 1 10 ++ left) → IsFront (number_spelled 1 10 ++ left)
 cut_level left few bytes = let cut = cut_tid left (IsBytes-behind (number_spelled 1 10) left bytes) few in front_of 10 left cut.more (tid_spelled cut.value) (Level cut.value) cut.ranges cut.some cut.spells refl
+
+pub cut_handover : (left : List ℕ) → length left < 5 → IsBytes (number_spelled 1 11 ++ left) → IsFront (number_spelled 1 11 ++ left)
+cut_handover left few bytes =
+    let cut = cut_move left (IsBytes-behind (number_spelled 1 11) left bytes) few in
+    front_of 11 left cut.more (move_spelled cut.value.0 cut.value.1) (Handover cut.value.0 cut.value.1) cut.ranges cut.some cut.spells refl
 
 pub cut_operation : (left : List ℕ) → length left < 1 → IsFront left
 cut_operation left few = rw (nil_from_length left (omega (arith, few))) empty_is_front

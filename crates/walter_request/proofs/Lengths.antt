@@ -2,12 +2,12 @@
 use Rattle.std.proofs.Common.{◌≡◌, ℕ, ◌+◌, ◌++◌, length, arith}
 use Rattle.std.proofs.lemmas.List.{length-append}
 use Rattle.walter_base.specs.declared.message.Request.{Request}
-use Rattle.walter_base.specs.declared.message.Request.TheVariants.{Start, Read, Write, SetAdd, SetDel, SetRead, SetReadId, Commit, Abort, Level}
+use Rattle.walter_base.specs.declared.message.Request.TheVariants.{Start, Read, Write, SetAdd, SetDel, SetRead, SetReadId, Commit, Abort, Level, Handover}
 use Rattle.walter_base.specs.declared.names.ObjId.{ObjId}
 use Rattle.walter_fields.specs.Spellings.{number_spelled, block_spelled}
 use Rattle.walter_fields.proofs.Numbers.{length-number_spelled}
-use Rattle.walter_names.specs.Names.{object_spelled, tid_spelled, member_spelled}
-use Rattle.walter_names.proofs.Lengths.{length-object_spelled, length-tid_spelled, length-member_spelled, length-block_spelled}
+use Rattle.walter_names.specs.Names.{object_spelled, tid_spelled, member_spelled, move_spelled}
+use Rattle.walter_names.proofs.Lengths.{length-object_spelled, length-tid_spelled, length-member_spelled, length-move_spelled, length-block_spelled}
 use Rattle.walter_request.specs.Requests.{request_spelled, size_of}
 
 of_member : (operation id : ℕ) (oid : ObjId) → length (number_spelled 1 operation ++ member_spelled oid id) ≡ 21
@@ -33,6 +33,7 @@ length-request_spelled (SetReadId oid id) = of_member 7 id oid
 length-request_spelled Commit = length-number_spelled 1 _
 length-request_spelled Abort = length-number_spelled 1 _
 length-request_spelled (Level tid) = omega (arith, length-append (number_spelled 1 10) (tid_spelled tid), length-number_spelled 1 10, length-tid_spelled tid)
+length-request_spelled (Handover container to) = omega (arith, length-append (number_spelled 1 11) (move_spelled container to), length-number_spelled 1 11, length-move_spelled container to)
 
 -- for what is written of a request
-pub ruleset lengths = (length-append, length-number_spelled, length-object_spelled, length-tid_spelled, length-member_spelled, length-block_spelled)
+pub ruleset lengths = (length-append, length-number_spelled, length-object_spelled, length-tid_spelled, length-member_spelled, length-move_spelled, length-block_spelled)

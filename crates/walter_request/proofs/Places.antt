@@ -2,7 +2,7 @@
 use Rattle.std.proofs.Common.{◌≡◌, ◌≢◌, ℕ, ◌+◌, List, [], ◌∷◌, ◌++◌, length, refl, sym, ap, subst, ◌∙◌, arith}
 use Rattle.std.proofs.lemmas.List.{append-nil, length-append}
 use Rattle.walter_base.specs.declared.message.Request.{Request}
-use Rattle.walter_base.specs.declared.message.Request.TheVariants.{Start, Read, Write, SetAdd, SetDel, SetRead, SetReadId, Commit, Abort, Level}
+use Rattle.walter_base.specs.declared.message.Request.TheVariants.{Start, Read, Write, SetAdd, SetDel, SetRead, SetReadId, Commit, Abort, Level, Handover}
 use Rattle.walter_fields.specs.Cursors.{Remainder, whole_of}
 use Rattle.walter_fields.specs.Spellings.{IsBytes}
 use Rattle.walter_fields.proofs.Longest.{IsLongest, one_longest}
@@ -47,6 +47,7 @@ known_operation (SetReadId oid id) = (omega arith, omega arith)
 known_operation Commit = (omega arith, omega arith)
 known_operation Abort = (omega arith, omega arith)
 known_operation (Level tid) = (omega arith, omega arith)
+known_operation (Handover container to) = (omega arith, omega arith)
 
 -- a spelling begins with an operation
 starts_known : (body rest : List ℕ) (byte : ℕ) (request : Request) → Spells body request → body ≡ byte ∷ rest → IsOperation byte

@@ -1,12 +1,12 @@
 -- No spelling of a request begins that of another.
 use Rattle.std.proofs.Common.{◌≡◌, ◌≢◌, ◌∷◌, ap, append-nil, ℕ, ◌<◌, List, [], ◌++◌, refl, sym, ◌∙◌, append_assoc, arith}
 use Rattle.walter_base.specs.declared.message.Request.{Request}
-use Rattle.walter_base.specs.declared.message.Request.TheVariants.{Start, Read, Write, SetAdd, SetDel, SetRead, SetReadId, Commit, Abort, Level}
+use Rattle.walter_base.specs.declared.message.Request.TheVariants.{Start, Read, Write, SetAdd, SetDel, SetRead, SetReadId, Commit, Abort, Level, Handover}
 use Rattle.walter_fields.specs.Spellings.{number_spelled, block_spelled}
 use Rattle.walter_fields.proofs.Numbers.{number_spelled-byte, same_number}
 use Rattle.walter_fields.proofs.Readings.{same_block}
-use Rattle.walter_names.specs.Names.{object_spelled, tid_spelled, member_spelled}
-use Rattle.walter_names.proofs.Prefixes.{regrouped, same_object, same_tid, same_member}
+use Rattle.walter_names.specs.Names.{object_spelled, tid_spelled, member_spelled, move_spelled}
+use Rattle.walter_names.proofs.Prefixes.{regrouped, same_object, same_tid, same_member, same_move}
 use Rattle.walter_request.specs.Requests.{request_spelled, IsRequest, Spells}
 
 -- a request is its operation, and its fields
@@ -21,6 +21,7 @@ operation_of (SetReadId oid id) = 7
 operation_of Commit = 8
 operation_of Abort = 9
 operation_of (Level tid) = 10
+operation_of (Handover container to) = 11
 
 abbrev pub fields_spelled : Request → List ℕ
 fields_spelled Start = []
@@ -33,6 +34,7 @@ fields_spelled (SetReadId oid id) = member_spelled oid id
 fields_spelled Commit = []
 fields_spelled Abort = []
 fields_spelled (Level tid) = tid_spelled tid
+fields_spelled (Handover container to) = move_spelled container to
 
 pub request_parts : (a : Request) (x : List ℕ) → request_spelled a ++ x ≡ number_spelled 1 (operation_of a) ++ (fields_spelled a ++ x)
 request_parts Start x = refl
@@ -45,6 +47,7 @@ request_parts (SetReadId oid id) x = append_assoc (number_spelled 1 7) (member_s
 request_parts Commit x = refl
 request_parts Abort x = refl
 request_parts (Level tid) x = append_assoc (number_spelled 1 10) (tid_spelled tid) x
+request_parts (Handover container to) x = append_assoc (number_spelled 1 11) (move_spelled container to) x
 
 pub operation_of-lt : (a : Request) → operation_of a < 256
 operation_of-lt Start = omega arith
@@ -57,6 +60,7 @@ operation_of-lt (SetReadId oid id) = omega arith
 operation_of-lt Commit = omega arith
 operation_of-lt Abort = omega arith
 operation_of-lt (Level tid) = omega arith
+operation_of-lt (Handover container to) = omega arith
 
 same_fields : (a b : Request) (x y : List ℕ) → operation_of a ≡ operation_of b → IsRequest a → IsRequest b → fields_spelled a ++ x ≡ fields_spelled b ++ y → (a ≡ b) × (x ≡ y)
 same_fields Start Start x y same fits_a fits_b e = (refl, e)
@@ -72,6 +76,7 @@ same_fields (SetReadId a m) (SetReadId b n) x y same fits_a fits_b e = let parts
 same_fields Commit Commit x y same fits_a fits_b e = (refl, e)
 same_fields Abort Abort x y same fits_a fits_b e = (refl, e)
 same_fields (Level a) (Level b) x y same fits_a fits_b e = let parts = same_tid a b x y fits_a fits_b e in ((λ i. Level (parts.0 i)), parts.1)
+same_fields (Handover c t) (Handover d u) x y same fits_a fits_b e = let parts = same_move c d t u x y fits_a fits_b e in ((λ i. Handover (parts.0 i) (parts.1 i)), parts.2)
 same_fields _ _ x y same fits_a fits_b e = absurd (omega (arith, same))
 
 pub same_request : (a b : Request) (x y : List ℕ) → IsRequest a → IsRequest b → request_spelled a ++ x ≡ request_spelled b ++ y → (a ≡ b) × (x ≡ y)

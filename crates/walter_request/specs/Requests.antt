@@ -2,9 +2,9 @@
 use Rattle.std.specs.Prelude.{◌≡◌, ◌≢◌, ◌<◌, ◌≤◌, ◌^◌, ◌+◌, ℕ, List, [], ◌∷◌, ◌++◌, length}
 use Rattle.walter_base.specs.declared.message.Request.{Request}
 use Rattle.walter_base.specs.declared.names.ObjId.{ObjId}
-use Rattle.walter_base.specs.declared.message.Request.TheVariants.{Start, Read, Write, SetAdd, SetDel, SetRead, SetReadId, Commit, Abort, Level}
+use Rattle.walter_base.specs.declared.message.Request.TheVariants.{Start, Read, Write, SetAdd, SetDel, SetRead, SetReadId, Commit, Abort, Level, Handover}
 use Rattle.walter_fields.specs.Spellings.{number_spelled, block_spelled}
-use Rattle.walter_names.specs.Names.{object_spelled, tid_spelled, member_spelled, IsObject, IsTid, IsMember}
+use Rattle.walter_names.specs.Names.{object_spelled, tid_spelled, member_spelled, move_spelled, IsObject, IsTid, IsMember, IsMove}
 use Rattle.walter_request.specs.declared.fault.RequestFault.{RequestFault}
 use Rattle.walter_request.specs.declared.fault.RequestFault.TheVariants.{BadFrame, NoMemory}
 
@@ -19,6 +19,7 @@ request_spelled (SetReadId oid id) = number_spelled 1 7 ++ member_spelled oid id
 request_spelled Commit = number_spelled 1 8
 request_spelled Abort = number_spelled 1 9
 request_spelled (Level tid) = number_spelled 1 10 ++ tid_spelled tid
+request_spelled (Handover container to) = number_spelled 1 11 ++ move_spelled container to
 
 -- how many bytes that are
 abbrev pub size_of : Request → ℕ
@@ -32,6 +33,7 @@ size_of (SetReadId oid id) = 21
 size_of Commit = 1
 size_of Abort = 1
 size_of (Level tid) = 14
+size_of (Handover container to) = 6
 
 -- the numbers of a request are in the ranges of their fields
 abbrev pub IsRequest : Request → Type 0
@@ -45,6 +47,7 @@ IsRequest (SetReadId oid id) = IsMember oid id
 IsRequest Commit = Unit {0}
 IsRequest Abort = Unit {0}
 IsRequest (Level tid) = IsTid tid
+IsRequest (Handover container to) = IsMove container to
 
 -- the body is the spelling of the request, all of it
 pub record Spells (body : List ℕ) (request : Request) : Type 0 where
@@ -57,7 +60,7 @@ FitsFrame request = length (request_spelled request) ≤ 65536
 
 -- the first byte of a request says what is asked
 abbrev pub IsOperation : ℕ → Type 0
-IsOperation byte = (1 ≤ byte) × (byte ≤ 10)
+IsOperation byte = (1 ≤ byte) × (byte ≤ 11)
 
 -- the body spells no request, and this is the place of what is wrong: 0 where it is empty or its first byte says nothing;
 -- its length where a field runs past its end; the place of the first byte behind the last field

@@ -8,7 +8,7 @@ use crate::fault::{RequestFault, Stop};
 use std::alloc::Global;
 use walter_base::{Request, SharedBytes};
 use walter_fields::Cursor;
-use walter_names::{read_member, read_object, read_tid};
+use walter_names::{read_member, read_move, read_object, read_tid};
 
 /// Nothing stands behind what was read.
 fn expect_end(cursor: &Cursor) -> Result<(), Stop>
@@ -84,6 +84,15 @@ fn read_level(cursor: &mut Cursor) -> Result<Request, Stop>
     Ok(Request::Level(read_tid(cursor)?))
 }
 
+/// What stands behind the operation Handover.
+fn read_handover(cursor: &mut Cursor) -> Result<Request, Stop>
+    ensures ends { IfOk result (EndsWith 11 cursor.old cursor.new) }
+    ensures stop { IfErr result (StopsBehind 11 cursor.old cursor.new) }
+{
+    let (container, to) = read_move(cursor)?;
+    Ok(Request::Handover(container, to))
+}
+
 /// What stands behind the operation.
 fn read_fields(alloc: Global, cursor: &mut Cursor, operation: u8) -> Result<Request, Stop>
     ensures ends { IfOk result (EndsWith operation cursor.old cursor.new) }
@@ -100,6 +109,7 @@ fn read_fields(alloc: Global, cursor: &mut Cursor, operation: u8) -> Result<Requ
         8 => Ok(Request::Commit),
         9 => Ok(Request::Abort),
         10 => read_level(cursor),
+        11 => read_handover(cursor),
         _ => Err(Stop::Unknown),
     }
 }

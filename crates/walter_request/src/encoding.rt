@@ -5,7 +5,7 @@ ghost use Rattle.walter_request.specs.Requests.{request_spelled, FitsFrame};
 use std::alloc::Global;
 use walter_base::{Bytes, Mem, NoMemory, Request};
 use walter_fields::Appender;
-use walter_names::{write_member, write_object, write_tid};
+use walter_names::{write_member, write_move, write_object, write_tid};
 
 /// How many bytes the spelling has.
 #[tactic(auto, using(crate::proofs::Lengths::lengths))]
@@ -19,6 +19,7 @@ fn size_of(request: &Request) -> usize
         Request::Write(_, bytes) => 17 + bytes.len(),
         Request::SetAdd(_, _) | Request::SetDel(_, _) | Request::SetReadId(_, _) => 21,
         Request::Level(_) => 14,
+        Request::Handover(_, _) => 6,
     }
 }
 
@@ -61,6 +62,10 @@ fn append(out: &mut Appender, request: &Request)
         Request::Level(tid) => {
             out.u8(10);
             write_tid(out, *tid);
+        }
+        Request::Handover(container, to) => {
+            out.u8(11);
+            write_move(out, *container, *to);
         }
     }
 }

@@ -34,6 +34,13 @@ module _ {X : Type 0} where
       ]
 
   -- where some pass, there is one that does
+  pub all_pass : (p : X → Bool) (xs : List X) → ((x : X) → Contains xs x → p x ≡ true) → list_all p xs ≡ true
+  all_pass p [] each = refl
+  all_pass p (x ∷ xs) each =
+      let first = each x (first_in x xs) in
+      let rest = all_pass p xs (λ y within. each y (later_in x xs y within)) in
+      rw (first, rest) refl
+
   pub one_passes : (p : X → Bool) (xs : List X) → list_any p xs ≡ true → (x : X) × Contains xs x × (p x ≡ true)
   one_passes p [] some = absurd cc
   one_passes p (y ∷ ys) some = elim (cases_Bool (p y)) [

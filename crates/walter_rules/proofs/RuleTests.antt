@@ -1,5 +1,5 @@
 -- What the tests of the rules tell where they are true.
-use Rattle.std.proofs.Common.{◌≡◌, ◌≢◌, ℕ, ◌+◌, ◌<◌, true, false, not, ◌&&◌, nat_lt, nat_le, nat_eq, List, map, length, slice_index, Option, Some, None, ap, sym, ◌∙◌, subst, arith, inl, inr}
+use Rattle.std.proofs.Common.{◌≡◌, ◌≢◌, ℕ, ◌+◌, ◌<◌, Bool, true, false, not, if◌then◌else◌, refl, ◌&&◌, nat_lt, nat_le, nat_eq, List, map, length, slice_index, Option, Some, None, ap, sym, ◌∙◌, subst, arith, inl, inr, ◌⊎◌}
 use Rattle.std.specs.Prelude.{Contains}
 use Rattle.std.specs.FinMap.{get}
 use Rattle.std.specs.List.{list_all, range_with_len}
@@ -15,7 +15,7 @@ use Rattle.walter_base.specs.declared.names.SiteId.{SiteId}
 use Rattle.walter_base.specs.declared.names.Tid.{Tid}
 use Rattle.walter_base.specs.declared.names.Version.{Version}
 use Rattle.walter_base.specs.declared.transaction.Conflict.{Conflict}
-use Rattle.walter_base.specs.declared.transaction.Conflict.TheVariants.{Dead}
+use Rattle.walter_base.specs.declared.transaction.Conflict.TheVariants.{Dead, Moving}
 use Rattle.walter_base.specs.declared.transaction.Tx.{Tx}
 use Rattle.walter_base.specs.declared.update.Update.{Update}
 use Rattle.walter_base.specs.Conflicts.{first_outside, conflict_over}
@@ -23,14 +23,14 @@ use Rattle.walter_base.specs.Names.{same_site}
 use Rattle.walter_base.specs.Vectors.{entry_at}
 use Rattle.walter_base.proofs.NameTests.{same_site-true, same_site_refl}
 use Rattle.walter_rules.specs.Allowed.{AreClear, Covers, IsUnseen, HaveSaidYes, IsNextCommit, AreLockable}
-use Rattle.walter_rules.specs.Conflicts.{conflict_at, first_conflict}
-use Rattle.walter_rules.specs.Declarations.{is_of_kind, same_kind, are_declared, are_lockable}
+use Rattle.walter_rules.specs.Conflicts.{conflict_at, first_conflict, conflict_there, first_there}
+use Rattle.walter_rules.specs.Declarations.{is_of_kind, same_kind, are_declared, are_regular, are_lockable}
 use Rattle.walter_rules.specs.Deliveries.{is_peer, covers, accepts, is_unseen}
 use Rattle.walter_rules.specs.Knowledge.{Knowledge, preferred, site_at}
 use Rattle.walter_rules.specs.Log.{row, version_of, seq_in, has_seen}
 use Rattle.walter_rules.specs.Objects.{objects_at}
 use Rattle.walter_rules.specs.Slow.{has_site}
-use Rattle.walter_rules.proofs.Membership.{each_passes, one_passes, first_given, none_given, in_range}
+use Rattle.walter_rules.proofs.Membership.{each_passes, all_pass, one_passes, first_given, none_given, in_range}
 use Rattle.walter_rules.proofs.WrittenObjects.{in_objects_at}
 
 -- a site of a list
@@ -135,16 +135,57 @@ first_alive K snapshot objects conflict first =
     let one = one_meets K snapshot objects conflict first in
     alive_over one.0 (first_outside snapshot (map version_of (row one.0 K.log))) (K.owner one.0) conflict one.2
 
--- the objects of a PREPARE that may be locked, where none meets a conflict
+-- what another site's PREPARE meets on an object is what a commit here would meet, where it is preferred here
+there_cases : (catalog : Catalog) (i : SiteId) (K : Knowledge) (snapshot : List ℕ) (oid : ObjId) (test : Bool)
+    → same_site (preferred catalog K oid) i ≡ test → (found : Option Conflict)
+    → (if test then conflict_at K snapshot oid else Some (Moving oid)) ≡ found
+    → ((preferred catalog K oid ≡ i) × (conflict_at K snapshot oid ≡ found))
+    ⊎ ((preferred catalog K oid ≢ i) × (Some (Moving oid) ≡ found))
+there_cases catalog i K snapshot oid true is found h = inl (same_site-true (preferred catalog K oid) i is, h)
+there_cases catalog i K snapshot oid false is found h = inr (other_site (preferred catalog K oid) i is, h)
+
+pub there_meets : (catalog : Catalog) (i : SiteId) (K : Knowledge) (snapshot : List ℕ) (oid : ObjId)
+    (found : Option Conflict) → conflict_there catalog i K snapshot oid ≡ found
+    → ((preferred catalog K oid ≡ i) × (conflict_at K snapshot oid ≡ found))
+    ⊎ ((preferred catalog K oid ≢ i) × (Some (Moving oid) ≡ found))
+there_meets catalog i K snapshot oid found h =
+    there_cases catalog i K snapshot oid (same_site (preferred catalog K oid) i) refl found h
+
+-- a first conflict of a PREPARE is that of some object of it, and doesn't say that a commit is over
+pub one_meets_there : (catalog : Catalog) (i : SiteId) (K : Knowledge) (snapshot : List ℕ) (objects : List ObjId)
+    (conflict : Conflict) → first_there catalog i K snapshot objects ≡ Some conflict
+    → (oid : ObjId) × Contains objects oid × (conflict_there catalog i K snapshot oid ≡ Some conflict)
+one_meets_there catalog i K snapshot objects conflict first =
+    first_given (conflict_there catalog i K snapshot) objects conflict first
+
+pub there_alive : (catalog : Catalog) (i : SiteId) (K : Knowledge) (snapshot : List ℕ) (objects : List ObjId)
+    (conflict : Conflict) → first_there catalog i K snapshot objects ≡ Some conflict → conflict ≢ Dead
+there_alive catalog i K snapshot objects conflict first =
+    let one = one_meets_there catalog i K snapshot objects conflict first in
+    elim (there_meets catalog i K snapshot one.0 (Some conflict) one.2) [
+      | inl here ↦ alive_over one.0 (first_outside snapshot (map version_of (row one.0 K.log))) (K.owner one.0) conflict
+          here.1
+      | inr gone ↦ λ dead. let e = gone.1 in cc
+    ]
+
+-- the objects of a PREPARE may be locked, where all are regular and none meets a conflict
 pub lockable : (catalog : Catalog) (i : SiteId) (K : Knowledge) (start : List ℕ) (objects : List ObjId)
-    → are_lockable catalog K i objects ≡ true
-    → first_conflict K start objects ≡ None → AreLockable catalog i K start objects
-lockable catalog i K start objects regular none = record {
-  here = λ oid within.
-      let passes = each_passes (λ o. is_of_kind catalog Regular o && same_site
-      (preferred catalog K o) i) objects oid regular within in
-      same_site-true (preferred catalog K oid) i
-      (and_parts (is_of_kind catalog Regular oid) (same_site (preferred catalog K oid) i) passes).1;
-  regular = regular;
-  clear = none_meets K start objects none;
-}
+    → are_regular catalog objects ≡ true
+    → first_there catalog i K start objects ≡ None → AreLockable catalog i K start objects
+lockable catalog i K start objects regular none =
+    let free : (oid : ObjId) → Contains objects oid
+    → (preferred catalog K oid ≡ i) × (conflict_at K start oid ≡ None) = λ oid within.
+    elim (there_meets catalog i K start oid None
+    (none_given (conflict_there catalog i K start) objects oid none within)) [
+      | inl here ↦ here
+      | inr gone ↦ absurd (let e = gone.1 in cc)
+    ] in
+    record {
+      here = λ oid within. (free oid within).0;
+      regular = all_pass (λ oid. is_of_kind catalog Regular oid && same_site (preferred catalog K oid) i) objects
+          (λ oid within.
+          let kind = each_passes (is_of_kind catalog Regular) objects oid regular within in
+          let at = (free oid within).0 in
+          rw (kind, at) (same_site_refl i));
+      clear = λ oid within. (free oid within).1;
+    }

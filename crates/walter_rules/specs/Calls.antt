@@ -10,11 +10,11 @@ use Rattle.walter_base.specs.declared.message.Level.TheVariants.{NotCommitted, R
 use Rattle.walter_base.specs.declared.message.Record.{Record}
 use Rattle.walter_base.specs.declared.message.Record.TheVariants.{Own, SlowBegin}
 use Rattle.walter_base.specs.declared.message.Refusal.{Refusal}
-use Rattle.walter_base.specs.declared.message.Refusal.TheVariants.{UnknownContainer, WrongKind, TxFull, TooLong, NoTx, TxOpen, Gone, BadFrame, Down as IsDown, SetTooWide, SessionsFull, WrongSite, NotIssued}
+use Rattle.walter_base.specs.declared.message.Refusal.TheVariants.{UnknownContainer, WrongKind, TxFull, TooLong, NoTx, TxOpen, Gone, BadFrame, Down as IsDown, SetTooWide, SessionsFull, WrongSite, NotIssued, NotHolder, Busy, BadTarget}
 use Rattle.walter_base.specs.declared.message.Reply.{Reply}
 use Rattle.walter_base.specs.declared.message.Reply.TheVariants.{Started, Value, Done, Set, Count, Committed, Aborted, Deciding, Level, Ended, Refused}
 use Rattle.walter_base.specs.declared.message.Request.{Request}
-use Rattle.walter_base.specs.declared.message.Request.TheVariants.{Start, Read, Write, SetAdd, SetDel, SetRead, SetReadId, Commit, Abort, Level as LevelAsked}
+use Rattle.walter_base.specs.declared.message.Request.TheVariants.{Start, Read, Write, SetAdd, SetDel, SetRead, SetReadId, Commit, Abort, Level as LevelAsked, Handover}
 use Rattle.walter_base.specs.declared.names.Kind.{Kind}
 use Rattle.walter_base.specs.declared.names.Kind.TheVariants.{Regular, Cset}
 use Rattle.walter_base.specs.declared.names.ObjId.{ObjId}
@@ -23,19 +23,21 @@ use Rattle.walter_base.specs.declared.names.Tid.{Tid}
 use Rattle.walter_base.specs.declared.names.Version.{Version}
 use Rattle.walter_base.specs.declared.transaction.Cause.TheVariants.{Asked}
 use Rattle.walter_base.specs.declared.transaction.Conflict.{Conflict}
+use Rattle.walter_base.specs.declared.transaction.Tx.{Tx}
 use Rattle.walter_base.specs.declared.update.Update.{Update}
-use Rattle.walter_base.specs.declared.update.Update.TheVariants.{Write as WriteOf, Add, Del}
+use Rattle.walter_base.specs.declared.update.Update.TheVariants.{Write as WriteOf, Add, Del, Move}
 use Rattle.walter_base.specs.Names.{same_site, same_tid}
 use Rattle.walter_base.specs.Sizes.{size_of_updates}
 use Rattle.walter_base.specs.Values.{value_of, count_of, counts_of}
 use Rattle.walter_rules.specs.declared.outcome.Outcome.{Outcome}
 use Rattle.walter_rules.specs.declared.outcome.Outcome.TheVariants.{Replied}
 use Rattle.walter_rules.specs.Conflicts.{first_conflict, cause_of}
-use Rattle.walter_rules.specs.Knowledge.{Knowledge, from_to}
+use Rattle.walter_rules.specs.Declarations.{is_known}
+use Rattle.walter_rules.specs.Knowledge.{Knowledge, preferred_in, vector_of, from_to}
 use Rattle.walter_rules.specs.Learning.{recorded}
 use Rattle.walter_rules.specs.Log.{seq_in, sees}
 use Rattle.walter_rules.specs.Marks.{durable_mark, visible_mark}
-use Rattle.walter_rules.specs.Objects.{objects_at, are_local, participants}
+use Rattle.walter_rules.specs.Objects.{objects_at, are_local, participants, busy}
 use Rattle.walter_rules.specs.Sending.{Send, to_each, own_sends, prepare_of}
 use Rattle.walter_rules.specs.Sessions.{Session, Sessions, with_slow, tx_of}
 use Rattle.walter_rules.specs.Slow.{Slow, Unused, Undecided, Dropped, Decided}
@@ -89,7 +91,8 @@ begins_slow catalog i K s = record {
   wrote = Some (SlowBegin (next_slow K) (tx_of (with_slow (next_slow K) s)));
   outcome = Replied (Deciding s.tid);
   sends = to_each (participants catalog K i s.updates)
-      (λ k. prepare_of catalog K (next_slow K) (tx_of (with_slow (next_slow K) s)) k ∷ []);
+      (λ k. prepare_of (λ p. objects_at catalog K p s.updates) (next_slow K)
+      (tx_of (with_slow (next_slow K) s)) k ∷ []);
 }
 
 abbrev pub if_local : Bool → Catalog → SiteId → Knowledge → Session → Expected
@@ -206,6 +209,49 @@ tells_level catalog i K tid =
     else if is_issued K tid then answers (Level (level_of catalog i K tid))
     else refuses NotIssued
 
+-- the transaction that hands a container over: it sees all that is committed here
+abbrev pub move_of : Catalog → SiteId → Knowledge → ℕ → SiteId → Tx
+move_of catalog i K container to = record {
+  tid = next_tid i K;
+  slow = 0;
+  start = vector_of catalog K;
+  updates = Move container to ∷ [];
+}
+
+abbrev pub moves : Catalog → SiteId → Knowledge → ℕ → SiteId → Expected
+moves catalog i K container to = record {
+  wrote = Some (Own (next_seq i K) (move_of catalog i K container to));
+  outcome = Replied (Committed (own_version i (next_seq i K)));
+  sends = own_sends catalog i K (recorded catalog i (Some (Own (next_seq i K) (move_of catalog i K container to))) K);
+}
+
+-- but not while an object of the container is locked here
+abbrev pub busy_with : ObjId → Option Tid → Expected
+busy_with oid None = refuses NoTx
+busy_with oid (Some owner) = refuses (Busy oid owner)
+
+abbrev pub if_free : Catalog → SiteId → Knowledge → ℕ → SiteId → Option ObjId → Expected
+if_free catalog i K container to None = moves catalog i K container to
+if_free catalog i K container to (Some oid) = busy_with oid (K.owner oid)
+
+-- by the site at which the container is preferred
+abbrev pub if_holder : Catalog → SiteId → Knowledge → ℕ → SiteId → Expected
+if_holder catalog i K container to =
+    if same_site (preferred_in catalog K container) i then if_free catalog i K container to (busy K container)
+    else refuses (NotHolder (preferred_in catalog K container))
+
+-- to another site of the catalog
+abbrev pub if_target : Catalog → SiteId → Knowledge → ℕ → SiteId → Expected
+if_target catalog i K container to =
+    if not (same_site to i) && nat_lt to.0 catalog.sites then if_holder catalog i K container to
+    else refuses BadTarget
+
+-- a container of the catalog is handed over
+abbrev pub hands_over : Catalog → SiteId → Knowledge → ℕ → SiteId → Expected
+hands_over catalog i K container to =
+    if is_known catalog container then if_target catalog i K container to
+    else refuses UnknownContainer
+
 -- the session where it is open
 abbrev pub if_open : ℕ → Session → Option Session
 if_open zero s = Some s
@@ -252,12 +298,15 @@ call_rule catalog i K (Ok (SetReadId oid id)) session =
 call_rule catalog i K (Ok Commit) session = commits_for catalog i K session
 call_rule catalog i K (Ok Abort) session = with_open (open_in session) (λ s. answers (Aborted Asked))
 call_rule catalog i K (Ok (LevelAsked tid)) session = tells_level catalog i K tid
+call_rule catalog i K (Ok (Handover container to)) session = hands_over catalog i K container to
 
--- a client whose transaction was lost in a stop is told so in the place of an answer, but to a bad frame or a Level
+-- a client whose transaction was lost in a stop is told so in the place of an answer, but to a bad frame, a Level or a
+-- Handover
 abbrev pub if_told : Result Request Bad → Option Tid → Expected → Expected
 if_told call None expected = expected
 if_told (Err bad) (Some tid) expected = expected
 if_told (Ok (LevelAsked asked)) (Some tid) expected = expected
+if_told (Ok (Handover container to)) (Some tid) expected = expected
 if_told (Ok Start) (Some tid) expected = refuses (Gone tid)
 if_told (Ok (Read oid)) (Some tid) expected = refuses (Gone tid)
 if_told (Ok (Write oid bytes)) (Some tid) expected = refuses (Gone tid)

@@ -9,7 +9,7 @@ use Rattle.walter_base.specs.declared.names.ObjId.{ObjId}
 use Rattle.walter_base.specs.declared.names.Tid.{Tid}
 use Rattle.walter_base.specs.declared.transaction.Tx.{Tx}
 use Rattle.walter_base.specs.declared.update.Update.{Update}
-use Rattle.walter_base.specs.declared.update.Update.TheVariants.{Write, Add, Del}
+use Rattle.walter_base.specs.declared.update.Update.TheVariants.{Write, Add, Del, Move}
 use Rattle.walter_fields.specs.Cursors.{Remainder, Takes, LacksBlock}
 use Rattle.walter_fields.specs.Spellings.{number_spelled, block_spelled}
 use Rattle.walter_fields.proofs.Numbers.{length-number_spelled, same_number}
@@ -17,10 +17,10 @@ use Rattle.walter_fields.proofs.Readings.{LacksBlock-no_block, same_block}
 use Rattle.walter_txcode.specs.declared.fault.DecodeFault.{DecodeFault}
 use Rattle.walter_txcode.specs.declared.fault.DecodeFault.TheVariants.{Unspelled, NoMemory}
 use Rattle.walter_txcode.specs.Faults.{IfUnspelled, NoneBegins}
-use Rattle.walter_names.specs.Names.{object_spelled, tid_spelled, IsObject, IsTid, member_spelled}
-use Rattle.walter_base.specs.Sizes.{HasShortValue, size_in, size_of_vector, size_of_update, most_in}
+use Rattle.walter_names.specs.Names.{object_spelled, tid_spelled, IsObject, IsTid, member_spelled, move_spelled}
+use Rattle.walter_base.specs.Sizes.{HasShortValue, size_in, size_of_vector, size_of_update, most_in, size_of}
 use Rattle.walter_txcode.specs.Spelling.{longest, numbers_spelled, vector_spelled, value_spelled, update_spelled, updates_spelled, head_spelled, spelling, AreFew, IsUpdate, HasSpelling}
-use Rattle.walter_names.proofs.Lengths.{length-tid_spelled, length-member_spelled}
+use Rattle.walter_names.proofs.Lengths.{length-tid_spelled, length-member_spelled, length-move_spelled}
 use Rattle.walter_txcode.proofs.Lengths.{length-numbers_spelled, length-value_spelled, length-update_spelled, length-updates_spelled, length-head_spelled, length-vector_spelled}
 use Rattle.walter_names.proofs.Prefixes.{same_object, same_tid}
 use Rattle.walter_txcode.proofs.Prefixes.{few_of, same_numbers, vector_parts, vector_told, kind_of, fields_spelled, behind_kind, same_update, AreSpellable, AreSpellable-from_both, each_spelled, each_parts, HasHead, same_head, same_updates, first_two}
@@ -73,6 +73,7 @@ no_update_at_all left few u rest e = omega (arith, ap length e, length-append (u
     some (Write oid bytes) = omega (arith, length-update_spelled (Write oid bytes))
     some (Add oid id) = omega (arith, length-update_spelled (Add oid id))
     some (Del oid id) = omega (arith, length-update_spelled (Del oid id))
+    some (Move container to) = omega (arith, length-update_spelled (Move container to))
 
 pub no_write : (left mid : List ℕ) → left ≡ number_spelled 1 1 ++ mid
     → ((oid : ObjId) (bytes rest : List ℕ) → IsObject oid → length bytes ≤ 4096 → mid ≢ value_spelled oid bytes ++ rest)
@@ -83,24 +84,37 @@ no_write left mid is none u rest fits short e = of_kind u fits short (behind_kin
     of_kind (Write oid bytes) fits short parts = none oid bytes rest fits short parts.1
     of_kind (Add oid id) fits short parts = omega (arith, parts.0)
     of_kind (Del oid id) fits short parts = omega (arith, parts.0)
+    of_kind (Move container to) fits short parts = omega (arith, parts.0)
 
-pub no_member : (k : ℕ) (left mid : List ℕ) → 1 < k → k < 256 → left ≡ number_spelled 1 k ++ mid → length mid < 20
+pub no_member : (k : ℕ) (left mid : List ℕ) → 1 < k → k < 4 → left ≡ number_spelled 1 k ++ mid → length mid < 20
     → (u : Update) (rest : List ℕ) → IsUpdate u → HasShortValue u → left ≢ update_spelled u ++ rest
-no_member k left mid high low is few u rest fits short e = of_kind u (behind_kind k u mid rest low (sym is ∙ e))
+no_member k left mid high low is few u rest fits short e = of_kind u (behind_kind k u mid rest (omega (arith, low)) (sym is ∙ e))
   where
     of_kind : (u : Update) → (k ≡ kind_of u) × (mid ≡ fields_spelled u ++ rest) → ⊥
     of_kind (Write oid bytes) parts = omega (arith, parts.0, high)
     of_kind (Add oid id) parts = too_few 20 mid (member_spelled oid id) rest (length-member_spelled oid id) few parts.1
     of_kind (Del oid id) parts = too_few 20 mid (member_spelled oid id) rest (length-member_spelled oid id) few parts.1
+    of_kind (Move container to) parts = omega (arith, parts.0, low)
 
-pub no_kind : (k : ℕ) (left mid : List ℕ) → k ≢ 1 → k ≢ 2 → k ≢ 3 → k < 256 → left ≡ number_spelled 1 k ++ mid
+pub no_move : (left mid : List ℕ) → left ≡ number_spelled 1 4 ++ mid → length mid < 5
     → (u : Update) (rest : List ℕ) → IsUpdate u → HasShortValue u → left ≢ update_spelled u ++ rest
-no_kind k left mid not_1 not_2 not_3 low is u rest fits short e = of_kind u (behind_kind k u mid rest low (sym is ∙ e)).0
+no_move left mid is few u rest fits short e = of_kind u (behind_kind 4 u mid rest (omega arith) (sym is ∙ e))
+  where
+    of_kind : (u : Update) → (4 ≡ kind_of u) × (mid ≡ fields_spelled u ++ rest) → ⊥
+    of_kind (Write oid bytes) parts = omega (arith, parts.0)
+    of_kind (Add oid id) parts = omega (arith, parts.0)
+    of_kind (Del oid id) parts = omega (arith, parts.0)
+    of_kind (Move container to) parts = too_few 5 mid (move_spelled container to) rest (length-move_spelled container to) few parts.1
+
+pub no_kind : (k : ℕ) (left mid : List ℕ) → k ≢ 1 → k ≢ 2 → k ≢ 3 → k ≢ 4 → k < 256 → left ≡ number_spelled 1 k ++ mid
+    → (u : Update) (rest : List ℕ) → IsUpdate u → HasShortValue u → left ≢ update_spelled u ++ rest
+no_kind k left mid not_1 not_2 not_3 not_4 low is u rest fits short e = of_kind u (behind_kind k u mid rest low (sym is ∙ e)).0
   where
     of_kind : (u : Update) → k ≢ kind_of u
     of_kind (Write oid bytes) = not_1
     of_kind (Add oid id) = not_2
     of_kind (Del oid id) = not_3
+    of_kind (Move container to) = not_4
 
 -- ---- several updates
 

@@ -11,12 +11,12 @@ use Rattle.walter_base.specs.declared.names.ObjId.{ObjId}
 use Rattle.walter_base.specs.declared.names.Tid.{Tid}
 use Rattle.walter_base.specs.declared.transaction.Tx.{Tx}
 use Rattle.walter_base.specs.declared.update.Update.{Update}
-use Rattle.walter_base.specs.declared.update.Update.TheVariants.{Write, Add, Del}
+use Rattle.walter_base.specs.declared.update.Update.TheVariants.{Write, Add, Del, Move}
 use Rattle.walter_fields.specs.Spellings.{number_spelled, block_spelled}
 use Rattle.walter_fields.proofs.Numbers.{same_number}
 use Rattle.walter_fields.proofs.Readings.{same_block}
-use Rattle.walter_names.proofs.Prefixes.{regrouped, same_object, same_tid, same_member}
-use Rattle.walter_names.specs.Names.{object_spelled, tid_spelled, IsObject, IsTid, member_spelled}
+use Rattle.walter_names.proofs.Prefixes.{regrouped, same_object, same_tid, same_member, same_move}
+use Rattle.walter_names.specs.Names.{object_spelled, tid_spelled, IsObject, IsTid, member_spelled, move_spelled}
 use Rattle.walter_base.specs.Sizes.{HasShortValue, CanBeSpelled}
 use Rattle.walter_txcode.specs.Spelling.{numbers_spelled, vector_spelled, value_spelled, update_spelled, updates_spelled, head_spelled, spelling, AreFew, IsUpdate, HasSpelling}
 
@@ -70,21 +70,25 @@ abbrev pub kind_of : Update → ℕ
 kind_of (Write oid bytes) = 1
 kind_of (Add oid id) = 2
 kind_of (Del oid id) = 3
+kind_of (Move container to) = 4
 
 abbrev pub fields_spelled : Update → List ℕ
 fields_spelled (Write oid bytes) = value_spelled oid bytes
 fields_spelled (Add oid id) = member_spelled oid id
 fields_spelled (Del oid id) = member_spelled oid id
+fields_spelled (Move container to) = move_spelled container to
 
 pub update_parts : (u : Update) → update_spelled u ≡ number_spelled 1 (kind_of u) ++ fields_spelled u
 update_parts (Write oid bytes) = refl
 update_parts (Add oid id) = refl
 update_parts (Del oid id) = refl
+update_parts (Move container to) = refl
 
 kind_of-lt : (u : Update) → kind_of u < 256
 kind_of-lt (Write oid bytes) = omega arith
 kind_of-lt (Add oid id) = omega arith
 kind_of-lt (Del oid id) = omega arith
+kind_of-lt (Move container to) = omega arith
 
 -- behind the kind stand the fields of an update of that kind
 pub behind_kind : (k : ℕ) (u : Update) (mid rest : List ℕ) → k < 256 → number_spelled 1 k ++ mid ≡ update_spelled u ++ rest → (k ≡ kind_of u) × (mid ≡ fields_spelled u ++ rest)
@@ -99,12 +103,20 @@ same_fields (Add a m) (Add b n) x y kinds fits_a short_a fits_b short_b e =
     let parts = same_member a b m n x y fits_a fits_b e in ((λ i. Add (parts.0 i) (parts.1 i)), parts.2)
 same_fields (Del a m) (Del b n) x y kinds fits_a short_a fits_b short_b e =
     let parts = same_member a b m n x y fits_a fits_b e in ((λ i. Del (parts.0 i) (parts.1 i)), parts.2)
+same_fields (Move c t) (Move d u) x y kinds fits_a short_a fits_b short_b e =
+    let parts = same_move c d t u x y fits_a fits_b e in ((λ i. Move (parts.0 i) (parts.1 i)), parts.2)
 same_fields (Write a v) (Add b n) x y kinds fits_a short_a fits_b short_b e = absurd (omega (arith, kinds))
 same_fields (Write a v) (Del b n) x y kinds fits_a short_a fits_b short_b e = absurd (omega (arith, kinds))
 same_fields (Add a m) (Write b w) x y kinds fits_a short_a fits_b short_b e = absurd (omega (arith, kinds))
 same_fields (Add a m) (Del b n) x y kinds fits_a short_a fits_b short_b e = absurd (omega (arith, kinds))
 same_fields (Del a m) (Write b w) x y kinds fits_a short_a fits_b short_b e = absurd (omega (arith, kinds))
 same_fields (Del a m) (Add b n) x y kinds fits_a short_a fits_b short_b e = absurd (omega (arith, kinds))
+same_fields (Write a v) (Move d u) x y kinds fits_a short_a fits_b short_b e = absurd (omega (arith, kinds))
+same_fields (Add a m) (Move d u) x y kinds fits_a short_a fits_b short_b e = absurd (omega (arith, kinds))
+same_fields (Del a m) (Move d u) x y kinds fits_a short_a fits_b short_b e = absurd (omega (arith, kinds))
+same_fields (Move c t) (Write b w) x y kinds fits_a short_a fits_b short_b e = absurd (omega (arith, kinds))
+same_fields (Move c t) (Add b n) x y kinds fits_a short_a fits_b short_b e = absurd (omega (arith, kinds))
+same_fields (Move c t) (Del b n) x y kinds fits_a short_a fits_b short_b e = absurd (omega (arith, kinds))
 
 pub same_update : (a b : Update) (x y : List ℕ) → IsUpdate a → HasShortValue a → IsUpdate b → HasShortValue b → update_spelled a ++ x ≡ update_spelled b ++ y → (a ≡ b) × (x ≡ y)
 same_update a b x y fits_a short_a fits_b short_b e =

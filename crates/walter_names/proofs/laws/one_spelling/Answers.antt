@@ -1,5 +1,5 @@
-use Rattle.walter_names.proofs.Lengths.{length-object_spelled, length-tid_spelled, length-version_spelled, length-member_spelled}
-use Rattle.walter_names.proofs.Prefixes.{same_object, same_tid, same_version, same_member}
+use Rattle.walter_names.proofs.Lengths.{length-object_spelled, length-tid_spelled, length-version_spelled, length-member_spelled, length-move_spelled}
+use Rattle.walter_names.proofs.Prefixes.{same_object, same_tid, same_version, same_member, same_move}
 use Rattle.walter_names.proofs.laws.one_spelling.Goals as goal
 
 pub returns-clause-objects : goal.returns-clause-objects
@@ -25,3 +25,9 @@ returns-clause-members c = same_member
 
 pub returns-clause-member_bytes : goal.returns-clause-member_bytes
 returns-clause-member_bytes c = length-member_spelled
+
+pub returns-clause-moves : goal.returns-clause-moves
+returns-clause-moves c = same_move
+
+pub returns-clause-move_bytes : goal.returns-clause-move_bytes
+returns-clause-move_bytes c = length-move_spelled
