@@ -1,14 +1,16 @@
 -- What a site keeps by itself: where it goes on, begins a transaction or a slow commit, goes down, comes up, or finds
 -- a record that was in flight.
 use Rattle.std.proofs.Common.{◌≡◌, ◌≢◌, ◌+◌, ◌<◌, ◌≤◌, ◌⊎◌, ℕ, zero, suc, nat_eq, Bool, true, false, List, [], ◌∷◌, ◌++◌, length, slice_get, Some, None, IfSome, option_map, Ok, refl, ap, sym, ◌∙◌, subst, arith, inl, inr, if◌then◌else◌}
-use Rattle.std.specs.Prelude.{Option}
+use Rattle.std.specs.Prelude.{Option, Result}
 use Rattle.std.proofs.lemmas.Bool.{cases_Bool, eqb-true, eq-eqb}
 use Rattle.std.proofs.lemmas.Option.{same_Some}
 use Rattle.walter_base.specs.declared.catalog.Catalog.{Catalog}
 use Rattle.walter_base.specs.declared.message.Record.{Record}
+use Rattle.walter_base.specs.declared.message.BadFrame.{BadFrame}
 use Rattle.walter_base.specs.declared.message.Record.TheVariants.{Boot, Own, Got, Seen, Prepared, Released, SlowBegin, SlowEnd, Marks, Format as FormatRecord}
 use Rattle.walter_base.specs.declared.message.Reply.TheVariants.{Started, Deciding}
-use Rattle.walter_base.specs.declared.message.Request.TheVariants.{Start, Commit, Handover}
+use Rattle.walter_base.specs.declared.message.Request.{Request}
+use Rattle.walter_base.specs.declared.message.Request.TheVariants.{Commit, Handover}
 use Rattle.walter_base.specs.declared.names.SiteId.{SiteId}
 use Rattle.walter_base.specs.declared.names.Tid.{Tid}
 use Rattle.walter_base.specs.declared.transaction.Tx.{Tx}
@@ -593,7 +595,7 @@ module _ (catalog : Catalog) (i : SiteId) (K : Knowledge) (flight : Option Recor
   -- the sessions stay
   pub quiet : (event : Event) (outcome : Outcome) (wrote : Option Record) → IsPlain wrote
       → IfSome wrote (CanFollow catalog i K)
-      → starts_after event outcome K.starts ≡ K.starts → sessions_after event outcome wrote
+      → starts_after event outcome K.starts ≡ K.starts → sessions_after catalog.friends event outcome wrote
       (vector_of catalog (recorded catalog i wrote K)) K.sessions ≡ K.sessions
       → IsNewName (HasThen event outcome wrote) K.slow (issued_by true K) wrote
       → IsKept catalog i true (Then event outcome wrote) None
@@ -679,10 +681,10 @@ module _ (catalog : Catalog) (i : SiteId) (K : Knowledge) (flight : Option Recor
       name
 
   -- a transaction starts
-  pub starts_one : (client : ℕ) → session_of K client ≡ None
-      → IsKept catalog i true (Then (Given (Call client (Ok Start))) (Replied (Started (next_tid i K))) None) None
-  starts_one client none =
-      let event : Event = Given (Call client (Ok Start)) in
+  pub starts_one : (client : ℕ) (call : Result Request BadFrame) → session_of K client ≡ None
+      → IsKept catalog i true (Then (Given (Call client call)) (Replied (Started (next_tid i K))) None) None
+  starts_one client call none =
+      let event : Event = Given (Call client call) in
       let outcome : Outcome = Replied (Started (next_tid i K)) in
       let new : Session = record { tid = next_tid i K; snapshot = vector_of catalog K; updates = []; slow = 0 } in
       let is : (c : ℕ) → HasThen event outcome None c ≡

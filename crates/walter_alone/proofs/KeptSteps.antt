@@ -10,16 +10,15 @@ use Rattle.walter_base.specs.declared.message.Level.TheVariants.{NotCommitted, R
 use Rattle.walter_base.specs.declared.message.Record.{Record}
 use Rattle.walter_base.specs.declared.message.Record.TheVariants.{Own, Got, Seen, Prepared, Released, SlowBegin, SlowEnd, Marks, Format as FormatRecord}
 use Rattle.walter_base.specs.declared.message.Reply.{Reply}
-use Rattle.walter_base.specs.declared.message.Reply.TheVariants.{Started, Value, Done, Set, Count, Committed, Aborted, Deciding, Level, Ended, Refused}
+use Rattle.walter_base.specs.declared.message.Reply.TheVariants.{Started, Value, Done, Set, Count, Committed, Aborted, Deciding, Level, Ended, Token as TokenIs, Refused}
 use Rattle.walter_base.specs.declared.message.Request.{Request}
-use Rattle.walter_base.specs.declared.message.Request.TheVariants.{Start, Read, Write, SetAdd, SetDel, SetRead, SetReadId, Commit, Abort, Level as LevelAsked, Handover}
+use Rattle.walter_base.specs.declared.message.Request.TheVariants.{Read, SetRead, SetReadId, Commit, Abort, Level as LevelAsked, Handover, Token}
 use Rattle.walter_base.specs.declared.names.SiteId.{SiteId}
 use Rattle.walter_base.specs.declared.packet.Answer.TheVariants.{Yes, No}
 use Rattle.walter_base.specs.declared.packet.Packet.TheVariants.{Propagate, Ack, Dsmark, Visible, Prepare, Vote, Release, Released as ReleasedSaid}
 use Rattle.walter_base.specs.declared.transaction.Cause.TheVariants.{Asked}
 use Rattle.walter_base.specs.declared.transaction.Tx.{Tx}
 use Rattle.walter_base.specs.declared.update.Update.{Update}
-use Rattle.walter_base.specs.declared.update.Update.TheVariants.{Write as WriteOf, Add, Del}
 use Rattle.walter_base.specs.Values.{value_of, count_of, counts_of}
 use Rattle.walter_base.proofs.ByClient.{changed-same, lookup-changed, lookup-without}
 use Rattle.walter_rules.specs.declared.entry.Came.{Came}
@@ -29,19 +28,20 @@ use Rattle.walter_rules.specs.declared.event.Event.TheVariants.{Given, Stop, Res
 use Rattle.walter_rules.specs.declared.event.Input.TheVariants.{Call, Deliver, Advance, Tick, Upgrade}
 use Rattle.walter_rules.specs.declared.outcome.Outcome.{Outcome}
 use Rattle.walter_rules.specs.declared.outcome.Outcome.TheVariants.{Replied, Taken, Passed, Failed, Full, Memory, Down}
-use Rattle.walter_rules.specs.Allowed.{IsKind, is_refused, starts, does, reads, ends, aborts, conflicts, commits, begins, moves, waits, tells_version, tells_cause, levels_own, is_deciding, is_running, denies, passes, receives, hears_ack, hears_durable, hears_visible, marks_durable, marks_visible, prepares, hears_yes, decides, gives_up, releases, hears_released, sees, upgrades, stops, is_down, boots, IsUpdateCall, of_write, of_add, of_del, IsReadCall, of_value, of_counts, of_count, HasOpen}
+use Rattle.walter_rules.specs.Allowed.{IsKind, is_refused, starts, does, reads, ends, aborts, conflicts, commits, begins, moves, waits, tells_version, tells_cause, levels_own, is_deciding, is_running, denies, passes, receives, hears_ack, hears_durable, hears_visible, marks_durable, marks_visible, prepares, hears_yes, decides, gives_up, releases, hears_released, sees, upgrades, stops, is_down, boots, IsUpdateCall, IsReadCall, of_value, of_counts, of_count, HasOpen, tells_token}
 use Rattle.walter_rules.specs.Calls.{own_version, next_seq, next_slow, next_tid, read_updates, level_of_own, move_of}
 use Rattle.walter_rules.specs.Conflicts.{cause_of}
 use Rattle.walter_rules.specs.Declarations.{is_declared}
 use Rattle.walter_rules.specs.Knowledge.{Knowledge, session_of, vector_of}
 use Rattle.walter_rules.specs.Layouts.{Layout}
-use Rattle.walter_rules.specs.Learning.{starts_after, sessions_after, deciding, recorded, after, lost}
+use Rattle.walter_rules.specs.Learning.{starts_after, sessions_after, updated, deciding, recorded, after, lost}
 use Rattle.walter_rules.specs.Marks.{durable_mark, visible_mark}
 use Rattle.walter_rules.specs.Records.{CanFollow}
-use Rattle.walter_rules.specs.Sessions.{Session, with_update, with_slow, tx_of}
+use Rattle.walter_rules.specs.Sessions.{Session, with_updates, with_slow, tx_of}
 use Rattle.walter_rules.specs.Slow.{Undecided, Dropped, Decided, begun}
 use Rattle.walter_rules.specs.Standing.{Standing, settled, goes_down, comes_up, up_after, knows_after, flight_after}
 use Rattle.walter_rules.specs.Trails.{standing, IsOnly, failure, want, fullness, IsFound, IsRightEntry, AreRight}
+use Rattle.walter_rules.proofs.RuleTests.{asked_is}
 use Rattle.walter_agreement.proofs.Cases.{none_not_some}
 use Rattle.walter_agreement.proofs.Issued.{IsIssued, next_issued, next_not_issued}
 use Rattle.walter_agreement.proofs.Tidy.{IsUnbegun}
@@ -119,12 +119,15 @@ failed_falls (Given input) = refl
 failed_falls Stop = refl
 failed_falls Restart = refl
 
--- one update more
-more_declared : (catalog : Catalog) (updates : List Update) (update : Update) → is_writable catalog update ≡ true
-    → are_writable catalog updates ≡ true
-    → are_writable catalog (updates ++ update ∷ []) ≡ true
-more_declared catalog updates update one all = list_all-append (is_writable catalog) updates (update ∷ [])
-    ∙ rw (all, one) refl
+-- some updates more
+more_declared : (catalog : Catalog) (updates more : List Update) → are_writable catalog more ≡ true
+    → are_writable catalog updates ≡ true → are_writable catalog (updates ++ more) ≡ true
+more_declared catalog updates more new all = list_all-append (is_writable catalog) updates more ∙ rw (all, new) refl
+
+-- what a call asks for hands nothing over
+asked_writable : (catalog : Catalog) (friends : Option ℕ) (call : Result Request BadFrame) (updates : List Update)
+    → IsUpdateCall friends call updates → are_declared catalog updates ≡ true → are_writable catalog updates ≡ true
+asked_writable catalog friends call updates asks declared = ?
 
 module _ (catalog : Catalog) (i : SiteId) (below : i.0 < catalog.sites) (S : Standing)
     (I : IsKept catalog i S.up S.knows S.flight) where
@@ -231,7 +234,7 @@ module _ (catalog : Catalog) (i : SiteId) (below : i.0 < catalog.sites) (S : Sta
   stays_quiet : S.up ≡ true → (event : Event) (outcome : Outcome) (wrote : Option Record) → IsPlain wrote
       → IfSome wrote (CanFollow catalog i S.knows)
       → starts_after event outcome S.knows.starts ≡ S.knows.starts
-      → sessions_after event outcome wrote (vector_of catalog
+      → sessions_after catalog.friends event outcome wrote (vector_of catalog
       (recorded catalog i wrote S.knows)) S.knows.sessions ≡ S.knows.sessions
       → IsNewName (λ c. session_of (after catalog i S.knows event outcome wrote) c) S.knows.slow
       (issued_by true S.knows) wrote
@@ -262,28 +265,19 @@ module _ (catalog : Catalog) (i : SiteId) (below : i.0 < catalog.sites) (S : Sta
       → S.knows.slow s.slow ≡ Undecided x asked → ⊥
   open_none client s open_ x asked h = (I.tidy.named s.slow x (ap begun h)).1 open_.is_open
 
-  done_more : (client : ℕ) (call : Result Request BadFrame) (s : Session) (update : Update) → HasOpen S client s
-      → is_writable catalog update ≡ true
-      → ((c : ℕ) → session_of (after catalog i S.knows (Given (Call client call)) (Replied Done) None) c ≡
-      (if nat_eq client c then option_map (with_update update) (session_of S.knows c) else session_of S.knows c))
-      → IsKept catalog i S.up (after catalog i S.knows (Given (Call client call)) (Replied Done) None)
-      (flight_after None None (Replied Done) S.flight)
-  done_more client call s update open_ declared is =
+  done_kept : (client : ℕ) (call : Result Request BadFrame) (s : Session) (updates : List Update)
+      → HasOpen S client s → IsUpdateCall catalog.friends call updates → are_declared catalog updates ≡ true
+      → Then (Given (Call client call)) (Replied Done) None None
+  done_kept client call s updates open_ asks declared =
       back open_.up (Replied Done) None (after catalog i S.knows (Given (Call client call)) (Replied Done) None)
       (changes catalog i S.knows S.flight (at_up open_.up) below (Given (Call client call)) (Replied Done) None client s
-      (with_update update) tt tt refl open_.session open_.is_open
-      (λ z. refl) (λ z. refl) (λ z. refl) (λ z d. more_declared catalog z.updates update declared d) is tt)
-
-  done_kept : (client : ℕ) (call : Result Request BadFrame) (s : Session) (update : Update) → HasOpen S client s
-      → IsUpdateCall call update → is_declared catalog update ≡ true
-      → Then (Given (Call client call)) (Replied Done) None None
-  done_kept client call s update open_ (of_write oid bytes) declared = done_more client (Ok (Write oid bytes)) s
-      (WriteOf oid bytes) open_ (rw declared refl) (λ c. lookup-changed client c
-      (with_update (WriteOf oid bytes)) S.knows.sessions)
-  done_kept client call s update open_ (of_add oid id) declared = done_more client (Ok (SetAdd oid id)) s
-      (Add oid id) open_ (rw declared refl) (λ c. lookup-changed client c (with_update (Add oid id)) S.knows.sessions)
-  done_kept client call s update open_ (of_del oid id) declared = done_more client (Ok (SetDel oid id)) s
-      (Del oid id) open_ (rw declared refl) (λ c. lookup-changed client c (with_update (Del oid id)) S.knows.sessions)
+      (with_updates updates) tt tt refl open_.session open_.is_open
+      (λ z. refl) (λ z. refl) (λ z. refl)
+      (λ z d. more_declared catalog z.updates updates
+      (asked_writable catalog catalog.friends call updates asks declared) d)
+      (λ c. lookup-changed client c (updated catalog.friends call) S.knows.sessions
+      ∙ ap (λ us. if nat_eq client c then option_map (with_updates us) (session_of S.knows c) else
+      session_of S.knows c) (asked_is catalog.friends call updates asks)) tt)
 
   read_kept : (client : ℕ) (call : Result Request BadFrame) (reply : Reply) (updates : List Update) → S.up ≡ true
       → IsReadCall call reply updates
@@ -327,12 +321,12 @@ module _ (catalog : Catalog) (i : SiteId) (below : i.0 < catalog.sites) (S : Sta
       → Then event outcome wrote None
   kind_kept event wrote outcome (is_refused client call refusal) = idle (Given (Call client call))
       (Replied (Refused refusal)) tt
-  kind_kept event wrote outcome (starts client up none) =
+  kind_kept event wrote outcome (starts client call up none asks) =
       back up (Replied (Started (next_tid i S.knows))) None
-      (after catalog i S.knows (Given (Call client (Ok Start))) (Replied (Started (next_tid i S.knows))) None)
-      (starts_one catalog i S.knows S.flight (at_up up) below client none)
-  kind_kept event wrote outcome (does client call s update open_ asks declared) =
-      done_kept client call s update open_ asks declared
+      (after catalog i S.knows (Given (Call client call)) (Replied (Started (next_tid i S.knows))) None)
+      (starts_one catalog i S.knows S.flight (at_up up) below client call none)
+  kind_kept event wrote outcome (does client call s updates open_ asks declared) =
+      done_kept client call s updates open_ asks declared
   kind_kept event wrote outcome (reads client call s reply open_ asks) = read_kept client call reply
       (read_updates S.knows s) open_.up asks
   kind_kept event wrote outcome (ends client s open_ none) =
@@ -384,6 +378,8 @@ module _ (catalog : Catalog) (i : SiteId) (below : i.0 < catalog.sites) (S : Sta
       (Replied (Level Running)) None tt tt refl refl tt
   kind_kept event wrote outcome (denies client tid up here issued none undecided open_) = stays_quiet up
       (Given (Call client (Ok (LevelAsked tid)))) (Replied (Level NotCommitted)) None tt tt refl refl tt
+  kind_kept event wrote outcome (tells_token client up) = stays_quiet up (Given (Call client (Ok Token)))
+      (Replied (TokenIs (vector_of catalog S.knows))) None tt tt refl refl tt
   kind_kept event wrote outcome (passes ev) = idle ev Passed tt
   kind_kept event wrote outcome (receives j number seq tx from next) =
       stays_quiet from.up (Given (Deliver j number (Propagate seq tx))) Taken (Some (Got j seq tx)) tt

@@ -29,13 +29,13 @@ use Rattle.walter_rules.specs.Log.{is_of, of_site, commit_at}
 use Rattle.walter_rules.specs.Objects.{objects_of, objects_at, participants, places_of, places}
 use Rattle.walter_rules.specs.Records.{CanFollow}
 use Rattle.walter_rules.specs.Slow.{Slow, Unused, Undecided, Dropped, Decided, begun, ended, decided, Part, Free, Locked, Over, is_slow, has_object, does_lock, unlocked}
-use Rattle.walter_rules.proofs.Membership.{first_in, later_in, in_cases, each_passes, one_passes, kept_from, is_kept, made_from, in_range}
+use Rattle.walter_rules.proofs.Membership.{first_in, later_in, in_cases, each_passes, one_passes, kept_from, is_kept, made_from, in_range, is_made}
 use Rattle.walter_rules.proofs.RuleTests.{peer_true}
 use Rattle.walter_rules.proofs.WrittenObjects.{objects_at_from, in_objects_at, in_rising, rising_from}
 use Rattle.walter_agreement.proofs.Cases.{unlocked_not_locked, site_cases, slow_cases, object_in, locked_not_free, unlocked_or_free, not_unused, none_not_some}
 use Rattle.walter_agreement.proofs.Owners.{AreOwners, none_owned, release, unlock, lock, boot_here}
 use Rattle.walter_alone.proofs.Alone.{HasHomes, IsAskedFor}
-use Rattle.walter_alone.proofs.TestsPass.{is_made, some_pass, in_from_to}
+use Rattle.walter_alone.proofs.TestsPass.{some_pass, in_from_to}
 
 -- a slow commit whose part at its own site is a lock is being decided
 abbrev pub IsOpenIfLocked : Part → Slow → Type 0

@@ -79,28 +79,28 @@ module _ (c : ℕ) (ss : Sessions) (none : session_in c ss ≡ None) where
   none_closed_by (Given (Call client (Ok (Handover container to)))) = none
   none_closed_by event = none_closed event
 
-  none_done : (event : Event) → session_in c (done event ss) ≡ None
-  none_done (Given (Call client call)) = none_changed c client (updated call) ss none
-  none_done event = none
+  none_done : (friends : Option ℕ) (event : Event) → session_in c (done friends event ss) ≡ None
+  none_done friends (Given (Call client call)) = none_changed c client (updated friends call) ss none
+  none_done friends event = none
 
   none_begun : (event : Event) (wrote : Option Record) → session_in c (begun_by event wrote ss) ≡ None
   none_begun (Given (Call client call)) wrote = none_changed c client (deciding wrote) ss none
   none_begun event wrote = none
 
   -- but where it is answered Started
-  none_after : (event : Event) (outcome : Outcome) (wrote : Option Record) (snapshot : List ℕ)
+  none_after : (friends : Option ℕ) (event : Event) (outcome : Outcome) (wrote : Option Record) (snapshot : List ℕ)
       → ((call : Result Request Bad) (tid : Tid) → event ≡ Given (Call c call) → outcome ≡ Replied (Started tid) → ⊥)
-      → session_in c (sessions_after event outcome wrote snapshot ss) ≡ None
-  none_after event (Replied (Started tid)) wrote snapshot others =
+      → session_in c (sessions_after friends event outcome wrote snapshot ss) ≡ None
+  none_after friends event (Replied (Started tid)) wrote snapshot others =
       none_opened event (record { tid = tid; snapshot = snapshot; updates = []; slow = 0 })
       (λ call is. others call tid is refl)
-  none_after event (Replied Done) wrote snapshot others = none_done event
-  none_after event (Replied (Committed version)) wrote snapshot others = none_closed_by event
-  none_after event (Replied (Aborted cause)) wrote snapshot others = none_closed event
-  none_after event (Replied (Deciding tid)) wrote snapshot others = none_begun event wrote
-  none_after event (Replied Ended) wrote snapshot others = none_closed event
-  none_after event (Replied (Unsure tid)) wrote snapshot others = none_closed_by event
-  none_after event outcome wrote snapshot others = none
+  none_after friends event (Replied Done) wrote snapshot others = none_done friends event
+  none_after friends event (Replied (Committed version)) wrote snapshot others = none_closed_by event
+  none_after friends event (Replied (Aborted cause)) wrote snapshot others = none_closed event
+  none_after friends event (Replied (Deciding tid)) wrote snapshot others = none_begun event wrote
+  none_after friends event (Replied Ended) wrote snapshot others = none_closed event
+  none_after friends event (Replied (Unsure tid)) wrote snapshot others = none_closed_by event
+  none_after friends event outcome wrote snapshot others = none
 
 -- ---- who is owed the news is not answered Started
 
@@ -203,7 +203,7 @@ module _ (catalog : Catalog) (layout : Layout) (i : SiteId) where
       stays (inr none) None is = inl (told_none event came.outcome S.gone c is)
       stays (inr none) (Some tid) is =
           inr
-          (none_after c S.knows.sessions none event came.outcome came.wrote
+          (none_after c S.knows.sessions none catalog.friends event came.outcome came.wrote
           (vector_of catalog (recorded catalog i came.wrote S.knows))
           (λ call tid' is_call started. not_started catalog layout i S c event call came tid tid' is_call comes is started))
 

@@ -21,7 +21,7 @@ use Rattle.walter_rules.specs.declared.event.Event.TheVariants.{Given}
 use Rattle.walter_rules.specs.declared.event.Input.TheVariants.{Deliver}
 use Rattle.walter_rules.specs.declared.held.Held.{Held}
 use Rattle.walter_rules.specs.declared.outcome.Outcome.{Outcome}
-use Rattle.walter_rules.specs.Allowed.{IsKind, is_refused, starts, does, reads, ends, aborts, conflicts, commits, begins, moves, waits, tells_version, tells_cause, levels_own, is_deciding, is_running, denies, passes, receives, hears_ack, hears_durable, hears_visible, marks_durable, marks_visible, prepares, hears_yes, decides, gives_up, releases, hears_released, sees, upgrades, stops, is_down, boots, HaveSaidYes}
+use Rattle.walter_rules.specs.Allowed.{IsKind, is_refused, starts, does, reads, ends, aborts, conflicts, commits, begins, moves, waits, tells_version, tells_cause, levels_own, is_deciding, is_running, denies, passes, receives, hears_ack, hears_durable, hears_visible, marks_durable, marks_visible, prepares, hears_yes, decides, gives_up, releases, hears_released, sees, upgrades, stops, is_down, boots, HaveSaidYes, tells_token}
 use Rattle.walter_rules.specs.Conflicts.{conflict_at}
 use Rattle.walter_rules.specs.Knowledge.{Knowledge, vector_of}
 use Rattle.walter_rules.specs.Log.{version_of, wrote, row, sees as does_see}
@@ -149,7 +149,7 @@ module _ (catalog : Catalog) (homes : HasHomes catalog) (W : Stands) (put : Put)
       → ((j : SiteId) (number : ℕ) (packet : Packet) → event ≡ Given (Deliver j number packet) → put j i packet)
       → IfSome record_ (IsDue catalog W put i)
   due_of event record_ outcome (is_refused client call refusal) puts = tt
-  due_of event record_ outcome (starts client up none) puts = tt
+  due_of event record_ outcome (starts client call up none asks) puts = tt
   due_of event record_ outcome (does client call s update has is declared) puts = tt
   due_of event record_ outcome (reads client call s reply has is) puts = tt
   due_of event record_ outcome (ends client s has none) puts = tt
@@ -199,6 +199,7 @@ module _ (catalog : Catalog) (homes : HasHomes catalog) (W : Stands) (put : Put)
   due_of event record_ outcome (is_deciding client tid up) puts = tt
   due_of event record_ outcome (is_running client tid up) puts = tt
   due_of event record_ outcome (denies client tid up site issued none not_undecided not_open) puts = tt
+  due_of event record_ outcome (tells_token client up) puts = tt
   due_of event record_ outcome (passes event_) puts = tt
   due_of event record_ outcome (receives j number seq tx peer next) puts = record {
     apart = peer.apart;

@@ -28,7 +28,7 @@ use Rattle.walter_rules.specs.declared.event.Input.TheVariants.{Call}
 use Rattle.walter_rules.specs.declared.held.Held.{Held}
 use Rattle.walter_rules.specs.declared.outcome.Outcome.{Outcome}
 use Rattle.walter_rules.specs.declared.outcome.Outcome.TheVariants.{Replied}
-use Rattle.walter_rules.specs.Allowed.{IsKind, IsReadCall, of_value, of_counts, of_count, is_refused, starts, does, reads, ends, aborts, conflicts, commits, begins, moves, waits, tells_version, tells_cause, levels_own, is_deciding, is_running, denies, passes, receives, hears_ack, hears_durable, hears_visible, marks_durable, marks_visible, prepares, hears_yes, decides, gives_up, releases, hears_released, sees, upgrades, stops, is_down, boots}
+use Rattle.walter_rules.specs.Allowed.{IsKind, IsReadCall, of_value, of_counts, of_count, is_refused, starts, does, reads, ends, aborts, conflicts, commits, begins, moves, waits, tells_version, tells_cause, levels_own, is_deciding, is_running, denies, passes, receives, hears_ack, hears_durable, hears_visible, marks_durable, marks_visible, prepares, hears_yes, decides, gives_up, releases, hears_released, sees, upgrades, stops, is_down, boots, tells_token}
 use Rattle.walter_rules.specs.Calls.{read_updates, seq_of, level_of_own}
 use Rattle.walter_rules.specs.Knowledge.{sites}
 use Rattle.walter_rules.specs.Layouts.{Layout}
@@ -132,7 +132,7 @@ module _ (catalog : Catalog) (homes : HasHomes catalog) (W : Stands) (put : Put)
   kind_level : (event : Event) (rec : Option Record) (outcome : Outcome) → IsKind catalog i (W i) event rec outcome
       → IsLevelRight catalog W i outcome event
   kind_level event rec outcome (is_refused client call refusal) = tt
-  kind_level event rec outcome (starts client up none) = tt
+  kind_level event rec outcome (starts client call up none asks) = tt
   kind_level event rec outcome (does client call s update has is declared) = tt
   kind_level event rec outcome (reads client call s reply has is) = read_level client call reply
       (read_updates (W i).knows s) is
@@ -149,6 +149,7 @@ module _ (catalog : Catalog) (homes : HasHomes catalog) (W : Stands) (put : Put)
   kind_level event rec outcome (is_deciding client tid up) = tt
   kind_level event rec outcome (is_running client tid up) = tt
   kind_level event rec outcome (denies client tid up site issued none not_undecided not_open) = tt
+  kind_level event rec outcome (tells_token client up) = tt
   kind_level event rec outcome (passes event_) = tt
   kind_level event rec outcome (receives j number seq tx peer next) = tt
   kind_level event rec outcome (hears_ack j number got peer few) = tt
@@ -201,7 +202,7 @@ IsAtAdvance rec event = Unit {0}
 seen_at : (catalog : Catalog) (i : SiteId) (S : Standing) (event : Event) (rec : Option Record) (outcome : Outcome)
     → IsKind catalog i S event rec outcome → IsAtAdvance rec event
 seen_at catalog i S event rec outcome (is_refused client call refusal) = tt
-seen_at catalog i S event rec outcome (starts client up none) = tt
+seen_at catalog i S event rec outcome (starts client call up none asks) = tt
 seen_at catalog i S event rec outcome (does client call s update has is declared) = tt
 seen_at catalog i S event rec outcome (reads client call s reply has is) = tt
 seen_at catalog i S event rec outcome (ends client s has none) = tt
@@ -217,6 +218,7 @@ seen_at catalog i S event rec outcome (levels_own client tid seq up site at) = t
 seen_at catalog i S event rec outcome (is_deciding client tid up) = tt
 seen_at catalog i S event rec outcome (is_running client tid up) = tt
 seen_at catalog i S event rec outcome (denies client tid up site issued none not_undecided not_open) = tt
+seen_at catalog i S event rec outcome (tells_token client up) = tt
 seen_at catalog i S event rec outcome (passes event_) = tt
 seen_at catalog i S event rec outcome (receives j number seq tx peer next) = tt
 seen_at catalog i S event rec outcome (hears_ack j number got peer few) = tt

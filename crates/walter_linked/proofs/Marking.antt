@@ -15,7 +15,7 @@ use Rattle.walter_rules.specs.declared.event.Event.TheVariants.{Given}
 use Rattle.walter_rules.specs.declared.event.Input.TheVariants.{Deliver}
 use Rattle.walter_rules.specs.declared.outcome.Outcome.{Outcome}
 use Rattle.walter_rules.specs.declared.outcome.Outcome.TheVariants.{Taken}
-use Rattle.walter_rules.specs.Allowed.{IsKind, IsTrueOf, is_refused, starts, does, reads, ends, aborts, conflicts, commits, begins, moves, waits, tells_version, tells_cause, levels_own, is_deciding, is_running, denies, passes, receives, hears_ack, hears_durable, hears_visible, marks_durable, marks_visible, prepares, hears_yes, decides, gives_up, releases, hears_released, sees, upgrades, stops, is_down, boots}
+use Rattle.walter_rules.specs.Allowed.{IsKind, IsTrueOf, is_refused, starts, does, reads, ends, aborts, conflicts, commits, begins, moves, waits, tells_version, tells_cause, levels_own, is_deciding, is_running, denies, passes, receives, hears_ack, hears_durable, hears_visible, marks_durable, marks_visible, prepares, hears_yes, decides, gives_up, releases, hears_released, sees, upgrades, stops, is_down, boots, tells_token}
 use Rattle.walter_rules.specs.Knowledge.{Knowledge, sites}
 use Rattle.walter_rules.specs.Learning.{heard, after, lost, said_durable_after, durable_after, visible_after, committed_after}
 use Rattle.walter_rules.specs.Marks.{durable_mark, visible_mark}
@@ -100,7 +100,7 @@ module _ (catalog : Catalog) (homes : HasHomes catalog) (W : Stands) (put : Put)
       → ((j : SiteId) (number : ℕ) (packet : Packet) → event ≡ Given (Deliver j number packet) → put j i packet)
       → IfSome rec (IsTrueIn catalog W i)
   true_of event rec outcome (is_refused client call refusal) puts = tt
-  true_of event rec outcome (starts client up none) puts = tt
+  true_of event rec outcome (starts client call up none asks) puts = tt
   true_of event rec outcome (does client call s update has is declared) puts = tt
   true_of event rec outcome (reads client call s reply has is) puts = tt
   true_of event rec outcome (ends client s has none) puts = tt
@@ -116,6 +116,7 @@ module _ (catalog : Catalog) (homes : HasHomes catalog) (W : Stands) (put : Put)
   true_of event rec outcome (is_deciding client tid up) puts = tt
   true_of event rec outcome (is_running client tid up) puts = tt
   true_of event rec outcome (denies client tid up site issued none not_undecided not_open) puts = tt
+  true_of event rec outcome (tells_token client up) puts = tt
   true_of event rec outcome (passes event_) puts = tt
   true_of event rec outcome (receives j number seq tx peer next) puts = tt
   true_of event rec outcome (hears_ack j number got peer few) puts = tt

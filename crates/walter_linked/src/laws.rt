@@ -1,11 +1,11 @@
 //! Laws of right and linked trails: what a site has of the others' commits, and the marks that it goes by.
-ghost use Rattle.std.specs.Prelude.{◌≡◌, ◌≢◌, ◌∷◌, ◌++◌, ℕ, List, reverse};
-ghost use Rattle.walter_base.specs.Catalogs.{Item, AreRight, containers_of};
+ghost use Rattle.std.specs.Prelude.{◌≡◌, ◌≢◌, ◌∷◌, ◌++◌, ℕ, List, reverse, IfSome};
+ghost use Rattle.walter_base.specs.Catalogs.{Item, AreRight, IsOfSets, containers_of};
 ghost use Rattle.walter_base.specs.declared.catalog.Catalog.{Catalog};
 ghost use Rattle.walter_base.specs.declared.names.SiteId.{SiteId};
 ghost use Rattle.walter_base.specs.declared.packet.Packet.TheVariants.{Propagate};
 ghost use Rattle.walter_base.specs.declared.transaction.Tx.{Tx};
-ghost use Rattle.walter_linked.specs.Catalogs.{IsWhole};
+ghost use Rattle.walter_linked.specs.Catalogs.{IsWhole, HasFriendSets};
 ghost use Rattle.walter_linked.specs.Holders.{AreHeldOnce};
 ghost use Rattle.walter_linked.specs.Marks.{AreGotRight, AreMarksTrue};
 ghost use Rattle.walter_linked.specs.Senders.{IsCommitOf};
@@ -51,8 +51,11 @@ pub fn sites_propagate_their_own()
         → IsCommitOf catalog j tx }
 {}
 
-/// The catalog that `Catalog::build` makes of right items is whole.
+/// The catalog that `Catalog::build` makes of right items is whole, and its friend lists are sets: so no call for
+/// friends is refused over their container.
 pub fn built_catalogs_are_whole()
-    ensures { (catalog : Catalog) (items : List Item) → AreRight catalog.sites items
+    ensures whole { (catalog : Catalog) (items : List Item) → AreRight catalog.sites items
         → catalog.containers ≡ containers_of items → IsWhole catalog }
+    ensures sets { (catalog : Catalog) (items : List Item) → AreRight catalog.sites items
+        → catalog.containers ≡ containers_of items → IfSome catalog.friends (IsOfSets items) → HasFriendSets catalog }
 {}

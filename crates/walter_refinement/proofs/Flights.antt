@@ -56,7 +56,7 @@ module _ (catalog : Catalog) (i : SiteId) (W : Stands) (put : Put) (h : List Ste
       (Some (SlowBegin (next_slow (W i).knows)
       (tx_of (with_slow (next_slow (W i).knows) s)))) None sends dropped) W)
       (h ++ (spelled_by W i (Some (SlowBegin (next_slow (W i).knows) (tx_of (with_slow (next_slow (W i).knows) s))))
-      ++ answered i (W i) (Some (SlowBegin (next_slow (W i).knows) (tx_of (with_slow (next_slow (W i).knows) s))))
+      ++ answered catalog.friends i (W i) (Some (SlowBegin (next_slow (W i).knows) (tx_of (with_slow (next_slow (W i).knows) s))))
       (Replied (Deciding s.tid)) (Given (Call client (Ok CommitAsked)))))
   begun_so client s kept sends dropped open_ =
       let n = next_slow (W i).knows in
@@ -104,7 +104,7 @@ module _ (catalog : Catalog) (i : SiteId) (W : Stands) (put : Put) (h : List Ste
       (s : Session) (seq : ℕ) → IsMute outcome → goes_down event outcome ≡ true
       → (W i).up ≡ true → session_of (W i).knows c ≡ Some s → IsDueOwn catalog W i seq (tx_of s)
       → Spells (at_site i (then_ catalog i (W i) event outcome kept None (Some (Own seq (tx_of s))) sends dropped) W)
-      (h ++ (spelled_by W i None ++ answered i (W i) None outcome event))
+      (h ++ (spelled_by W i None ++ answered catalog.friends i (W i) None outcome event))
   own_flies event outcome kept sends dropped c s seq mute fall up has due =
       let S2 = then_ catalog i (W i) event outcome kept None (Some (Own seq (tx_of s))) sends dropped in
       let K = after catalog i (W i).knows event outcome None in
@@ -133,7 +133,7 @@ module _ (catalog : Catalog) (i : SiteId) (W : Stands) (put : Put) (h : List Ste
       } in
       let undecided = not_decided catalog i W put h G sp s seq due in
       subst (λ t. Spells (at_site i S2 W) t)
-      (sym (ap (λ t. h ++ t) (mute_spells i (W i) None outcome event mute) ∙ append-nil h))
+      (sym (ap (λ t. h ++ t) (mute_spells catalog.friends i (W i) None outcome event mute) ∙ append-nil h))
       (record {
         spelled = moved_to W i S2 h same on
             (moved (owns W) (counts W) (numbers W) (held W) (spent W) h sp.spelled

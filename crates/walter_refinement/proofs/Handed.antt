@@ -209,7 +209,7 @@ module _ (catalog : Catalog) (i : SiteId) (W : Stands) (put : Put) (h : List Ste
     pub moves_fly : Spells (at_site i (then_ catalog i (W i) asked (Replied (Unsure mine)) kept None
         (Some (Own (next_seq i (W i).knows) tx)) sends dropped) W)
         (h ++ (opened i None (Replied (Unsure mine)) asked ++ (spelled_by W i None
-        ++ answered i (W i) None (Replied (Unsure mine)) asked)))
+        ++ answered catalog.friends i (W i) None (Replied (Unsure mine)) asked)))
     moves_fly =
         let S2 = then_ catalog i (W i) asked (Replied (Unsure mine)) kept None
         (Some (Own (next_seq i (W i).knows) tx)) sends dropped in
@@ -289,7 +289,7 @@ module _ (catalog : Catalog) (i : SiteId) (W : Stands) (put : Put) (h : List Ste
       pub moves_so : Spells (at_site i behind W)
           (h ++ (opened i (Some (Own seq tx)) (Replied (Committed (own_version i seq))) asked
           ++ (spelled_by W i (Some (Own seq tx))
-          ++ answered i (W i) (Some (Own seq tx)) (Replied (Committed (own_version i seq))) asked)))
+          ++ answered catalog.friends i (W i) (Some (Own seq tx)) (Replied (Committed (own_version i seq))) asked)))
       moves_so =
           let Then = at_site i behind W in
           let commit : Step = Commit mine (Move container to ∷ []) in

@@ -23,5 +23,7 @@ pub mod RunSteps
 pub mod RunSpells
 pub mod Once
 pub mod NamedAborts
+pub mod Tokens
+pub mod Friends
 pub mod Trails
 pub mod CommitsAnswered

@@ -27,7 +27,7 @@ use Rattle.walter_rules.specs.declared.event.Event.TheVariants.{Given, Stop, Res
 use Rattle.walter_rules.specs.declared.event.Input.TheVariants.{Call, Deliver, Advance, Tick, Upgrade}
 use Rattle.walter_rules.specs.declared.outcome.Outcome.{Outcome}
 use Rattle.walter_rules.specs.declared.outcome.Outcome.TheVariants.{Replied, Failed}
-use Rattle.walter_rules.specs.Allowed.{HasOpen, HasBegun, IsOwnerUnseen, IsMet, of_value, of_counts, of_count, IsKind, is_refused, starts, does, reads, ends, aborts, conflicts, commits, begins, moves, waits, tells_version, tells_cause, levels_own, is_deciding, is_running, denies, passes, receives, hears_ack, hears_durable, hears_visible, marks_durable, marks_visible, prepares, hears_yes, decides, gives_up, releases, hears_released, sees, upgrades, stops, is_down, boots}
+use Rattle.walter_rules.specs.Allowed.{HasOpen, HasBegun, IsOwnerUnseen, IsMet, of_value, of_counts, of_count, IsKind, is_refused, starts, does, reads, ends, aborts, conflicts, commits, begins, moves, waits, tells_version, tells_cause, levels_own, is_deciding, is_running, denies, passes, receives, hears_ack, hears_durable, hears_visible, marks_durable, marks_visible, prepares, hears_yes, decides, gives_up, releases, hears_released, sees, upgrades, stops, is_down, boots, tells_token}
 use Rattle.walter_rules.specs.Conflicts.{conflict_at, first_conflict, cause_of}
 use Rattle.walter_rules.specs.Knowledge.{Knowledge, preferred, session_of}
 use Rattle.walter_rules.specs.Layouts.{Layout}
@@ -65,7 +65,7 @@ kind_aborts : (catalog : Catalog) (i : SiteId) (S : Standing) (event : Event) (w
     (outcome : Outcome) (cause : Cause) → IsKind catalog i S event wrote outcome → outcome ≡ Replied (Aborted cause)
     → IsAbort catalog i S event cause
 kind_aborts catalog i S event wrote outcome cause (is_refused client call refusal) e = absurd cc
-kind_aborts catalog i S event wrote outcome cause (starts client up none) e = absurd cc
+kind_aborts catalog i S event wrote outcome cause (starts client call up none asks) e = absurd cc
 kind_aborts catalog i S event wrote outcome cause (does client call s update open_ is declared) e = absurd cc
 kind_aborts catalog i S event wrote outcome cause (reads client call s reply open_ (of_value oid us)) e = absurd cc
 kind_aborts catalog i S event wrote outcome cause (reads client call s reply open_ (of_counts oid us)) e = absurd cc
@@ -85,6 +85,7 @@ kind_aborts catalog i S event wrote outcome cause (levels_own client tid seq up 
 kind_aborts catalog i S event wrote outcome cause (is_deciding client tid up) e = absurd cc
 kind_aborts catalog i S event wrote outcome cause (is_running client tid up) e = absurd cc
 kind_aborts catalog i S event wrote outcome cause (denies client tid up here issued none undecided open_) e = absurd cc
+kind_aborts catalog i S event wrote outcome cause (tells_token client up) e = absurd cc
 kind_aborts catalog i S event wrote outcome cause (passes same) e = absurd cc
 kind_aborts catalog i S event wrote outcome cause (receives j number seq tx peer next) e = absurd cc
 kind_aborts catalog i S event wrote outcome cause (hears_ack j number got peer low) e = absurd cc

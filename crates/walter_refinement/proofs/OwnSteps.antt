@@ -167,7 +167,7 @@ module _ (catalog : Catalog) (i : SiteId) (W : Stands) (put : Put) (h : List Ste
         → Spells (at_site i (then_ catalog i (W i) (Given (Call client (Ok CommitAsked)))
         (Replied (Committed (own_version i seq))) kept (Some (Own seq (tx_of s))) None sends dropped) W)
         (h ++ (spelled_by W i (Some (Own seq (tx_of s)))
-        ++ answered i (W i) (Some (Own seq (tx_of s))) (Replied (Committed (own_version i seq)))
+        ++ answered catalog.friends i (W i) (Some (Own seq (tx_of s))) (Replied (Committed (own_version i seq)))
         (Given (Call client (Ok CommitAsked)))))
     committed_so client s seq open_ due owned_after =
         let S2 = then_ catalog i (W i) (Given (Call client (Ok CommitAsked)))
@@ -190,7 +190,7 @@ module _ (catalog : Catalog) (i : SiteId) (W : Stands) (put : Put) (h : List Ste
         (did_tell_version (owns Then) (counts Then) (numbers Then) (held Then) (spent Then)
         (h ++ Commit s.tid s.updates ∷ []) first.spelled i (length (owns W i)) r (held Then) owned_after here
         (λ d t has. has)) first in
-        let spelled_ : answered i (W i) (Some (Own seq (tx_of s))) (Replied (Committed (own_version i seq)))
+        let spelled_ : answered catalog.friends i (W i) (Some (Own seq (tx_of s))) (Replied (Committed (own_version i seq)))
         (Given (Call client (Ok CommitAsked))) ≡ step ∷ [] =
         ap (λ o. of_session (told (own_version i seq)) o) open_.session ∙ ap (λ v. Told s.tid (OfVersion v) ∷ [])
         (sym version) in
@@ -202,7 +202,7 @@ module _ (catalog : Catalog) (i : SiteId) (W : Stands) (put : Put) (h : List Ste
         → IsDueOwn catalog W i seq (tx_of s)
         → Spells (at_site i (then_ catalog i (W i) (Given (Deliver p number (Vote n Yes))) Taken kept
         (Some (Own seq (tx_of s))) None sends dropped) W)
-        (h ++ (spelled_by W i (Some (Own seq (tx_of s))) ++ answered i (W i) (Some (Own seq (tx_of s))) Taken
+        (h ++ (spelled_by W i (Some (Own seq (tx_of s))) ++ answered catalog.friends i (W i) (Some (Own seq (tx_of s))) Taken
         (Given (Deliver p number (Vote n Yes)))))
     decided_so p number n seq c s has some due =
         let S2 = then_ catalog i (W i) (Given (Deliver p number (Vote n Yes))) Taken kept
@@ -243,7 +243,7 @@ module _ (catalog : Catalog) (i : SiteId) (W : Stands) (put : Put) (h : List Ste
     pub seen_so : (j : SiteId) (seq : ℕ) → IsDueSeen W i j seq
         → Spells (at_site i (then_ catalog i (W i) (Given (Advance j)) Taken kept
         (Some (Seen j seq)) None sends dropped) W)
-        (h ++ (spelled_by W i (Some (Seen j seq)) ++ answered i (W i) (Some (Seen j seq)) Taken (Given (Advance j))))
+        (h ++ (spelled_by W i (Some (Seen j seq)) ++ answered catalog.friends i (W i) (Some (Seen j seq)) Taken (Given (Advance j))))
     seen_so j seq due =
         let S2 = then_ catalog i (W i) (Given (Advance j)) Taken kept (Some (Seen j seq)) None sends dropped in
         subst (λ t. Spells (at_site i S2 W) (h ++ t)) (sym (append-nil (spelled_by W i (Some (Seen j seq)))))

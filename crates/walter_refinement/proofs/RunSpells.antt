@@ -11,8 +11,8 @@ use Rattle.walter_rules.specs.declared.entry.Came.{Came}
 use Rattle.walter_rules.specs.declared.event.Event.{Event}
 use Rattle.walter_rules.specs.declared.event.Event.TheVariants.{Restart}
 use Rattle.walter_rules.specs.declared.outcome.Outcome.{Outcome}
+use Rattle.walter_rules.specs.Allowed.{IsKind, is_refused, starts, does, reads, ends, aborts, conflicts, commits, begins, moves, waits, tells_version, tells_cause, levels_own, is_deciding, is_running, denies, passes, receives, hears_ack, hears_durable, hears_visible, marks_durable, marks_visible, prepares, hears_yes, decides, gives_up, releases, hears_released, sees, upgrades, stops, is_down, boots, tells_token}
 use Rattle.walter_rules.specs.declared.outcome.Outcome.TheVariants.{Failed, Replied, Taken, Passed, Full, Memory, Down, Refused as RefusedThere}
-use Rattle.walter_rules.specs.Allowed.{IsKind, is_refused, starts, does, reads, ends, aborts, conflicts, commits, begins, moves, waits, tells_version, tells_cause, levels_own, is_deciding, is_running, denies, passes, receives, hears_ack, hears_durable, hears_visible, marks_durable, marks_visible, prepares, hears_yes, decides, gives_up, releases, hears_released, sees, upgrades, stops, is_down, boots}
 use Rattle.walter_rules.specs.Layouts.{Layout}
 use Rattle.walter_rules.specs.Merges.{Named}
 use Rattle.walter_rules.specs.Sessions.{Session}
@@ -51,7 +51,7 @@ step_keeps : (catalog : Catalog) (i : SiteId) (W : Stands) (put : Put) (h : List
     (counts (at_site i (stands_after catalog i (W i) event came) W))
     → Spells (at_site i (stands_after catalog i (W i) event came) W)
     (h ++ (opened i came.wrote came.outcome event
-    ++ (recorded W i came.wrote ++ answered i (W i) came.wrote came.outcome event)))
+    ++ (recorded W i came.wrote ++ answered catalog.friends i (W i) came.wrote came.outcome event)))
 step_keeps catalog i W put h below alone G sp event came (stable kind none sent) due due_flight numbered =
     subst (λ f. Keeps catalog i W put h below alone G sp came.kept came.sends came.dropped event came.outcome came.wrote f) (sym none)
     (kind_keeps catalog i W put h below alone G sp came.kept came.sends came.dropped event came.wrote came.outcome kind (if_due (IsDue catalog W put i) came.wrote due)
@@ -95,7 +95,7 @@ step_keeps catalog i W put h below alone G sp event came
 restart_still : (catalog : Catalog) (i : SiteId) (S : Standing) (event : Event) (wrote : Option Record)
     (outcome : Outcome) → event ≡ Restart → IsKind catalog i S event wrote outcome → IsStill i wrote
 restart_still catalog i S event wrote outcome e (is_refused client call refusal) = tt
-restart_still catalog i S event wrote outcome e (starts client up none) = tt
+restart_still catalog i S event wrote outcome e (starts client call up none asks) = tt
 restart_still catalog i S event wrote outcome e (does client call s update open_ is declared) = tt
 restart_still catalog i S event wrote outcome e (reads client call s reply open_ is) = tt
 restart_still catalog i S event wrote outcome e (ends client s open_ none) = tt
@@ -111,6 +111,7 @@ restart_still catalog i S event wrote outcome e (levels_own client tid seq up he
 restart_still catalog i S event wrote outcome e (is_deciding client tid up) = tt
 restart_still catalog i S event wrote outcome e (is_running client tid up) = tt
 restart_still catalog i S event wrote outcome e (denies client tid up here issued none undecided open_) = tt
+restart_still catalog i S event wrote outcome e (tells_token client up) = tt
 restart_still catalog i S event wrote outcome e (passes same) = tt
 restart_still catalog i S event wrote outcome e (receives j number seq tx peer next) = absurd (cc)
 restart_still catalog i S event wrote outcome e (hears_ack j number got peer low) = tt
@@ -183,7 +184,7 @@ module _ (catalog : Catalog) (layouts : SiteId → Layout) (homes : HasHomes cat
     -- the steps of the entry, where all stand so
     abbrev steps_in : Stands → List Step
     steps_in W = opened n.0 n.1.came.wrote n.1.came.outcome n.1.event
-        ++ (recorded W n.0 n.1.came.wrote ++ answered n.0 (W n.0) n.1.came.wrote n.1.came.outcome n.1.event)
+        ++ (recorded W n.0 n.1.came.wrote ++ answered catalog.friends n.0 (W n.0) n.1.came.wrote n.1.came.outcome n.1.event)
 
     -- the steps of the entry are those behind what was found
     same_steps : (kept : Option Record) → IfSome kept (IsFound (stands catalog older n.0) n.1.event)
@@ -203,8 +204,8 @@ module _ (catalog : Catalog) (layouts : SiteId → Layout) (homes : HasHomes cat
     same_steps (Some r) found_ step =
         let Found = at_site n.0 (settled catalog n.0 (Some r) (stands catalog older n.0)) (stands catalog older) in
         let still = restart_step_still catalog n.0 (Found n.0) n.1.event n.1.came found_.restart step in
-        let quiet : (S : Standing) → answered n.0 S n.1.came.wrote n.1.came.outcome n.1.event ≡ [] =
-        λ S. ap (λ e. answered n.0 S n.1.came.wrote n.1.came.outcome e) found_.restart in
+        let quiet : (S : Standing) → answered catalog.friends n.0 S n.1.came.wrote n.1.came.outcome n.1.event ≡ [] =
+        λ S. ap (λ e. answered catalog.friends n.0 S n.1.came.wrote n.1.came.outcome e) found_.restart in
         let first : List Step = opened n.0 n.1.came.wrote n.1.came.outcome n.1.event in
         (λ t. first ++ (still_spells Found n.0 n.1.came.wrote still t ++ quiet (Found n.0) t))
         ∙ sym (λ t. first ++ (still_spells (stands catalog older) n.0 n.1.came.wrote still t

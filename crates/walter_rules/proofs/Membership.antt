@@ -84,6 +84,14 @@ module _ {X Y : Type 0} where
     | inr there ↦ let rest = made_from f xs y there in (rest.0, later_in x xs rest.0 rest.1, rest.2)
   ]
 
+  -- what is made of each that a list contains stands in what is made of the list
+  pub is_made : (f : X → Y) (xs : List X) (x : X) → Contains xs x → Contains (map f xs) (f x)
+  is_made f [] x within = absurd (Contains-nil x within)
+  is_made f (y ∷ ys) x within = elim (in_cases y ys x within) [
+    | inl here ↦ subst (λ z. Contains (map f (y ∷ ys)) (f z)) here (first_in (f y) (map f ys))
+    | inr there ↦ later_in (f y) (map f ys) (f x) (is_made f ys x there)
+  ]
+
   -- what a map with gaps gave it gave at an element
   pub given_from : (h : X → Option Y) (xs : List X) (y : Y) → Contains (filter_map h xs) y
       → (x : X) × Contains xs x × (h x ≡ Some y)

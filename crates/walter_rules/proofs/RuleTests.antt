@@ -1,13 +1,17 @@
 -- What the tests of the rules tell where they are true.
-use Rattle.std.proofs.Common.{◌≡◌, ◌≢◌, ℕ, ◌+◌, ◌<◌, Bool, true, false, not, if◌then◌else◌, refl, ◌&&◌, nat_lt, nat_le, nat_eq, List, map, length, slice_index, Option, Some, None, ap, sym, ◌∙◌, subst, arith, inl, inr, ◌⊎◌}
+use Rattle.std.proofs.Common.{◌≡◌, ◌≢◌, ℕ, ◌+◌, ◌<◌, Bool, true, false, not, if◌then◌else◌, refl, ◌&&◌, nat_lt, nat_le, nat_eq, List, map, length, slice_index, Option, Some, None, ap, sym, ◌∙◌, subst, arith, inl, inr, ◌⊎◌, Result}
 use Rattle.std.specs.Prelude.{Contains}
 use Rattle.std.specs.FinMap.{get}
 use Rattle.std.specs.List.{list_all, range_with_len}
 use Rattle.std.specs.Option.{option_map_or}
-use Rattle.std.proofs.lemmas.Bool.{cases_lt, and_parts, ltb-true, leb-true, le-leb, eqb-true, not-true, both_ways}
+use Rattle.std.proofs.lemmas.Bool.{cases_lt, cases_Bool, and_parts, ltb-true, ltb-false, leb-true, le-leb, eqb-true, not-true, both_ways}
 use Rattle.std.proofs.lemmas.List.{get_or_past}
 use Rattle.walter_base.specs.declared.catalog.Catalog.{Catalog}
 use Rattle.walter_base.specs.declared.containers.Container.{Container}
+use Rattle.walter_base.specs.declared.message.BadFrame.{BadFrame}
+use Rattle.walter_base.specs.declared.message.Refusal.{Refusal}
+use Rattle.walter_base.specs.declared.message.Refusal.TheVariants.{Behind}
+use Rattle.walter_base.specs.declared.message.Request.{Request}
 use Rattle.walter_base.specs.declared.names.Kind.{Kind}
 use Rattle.walter_base.specs.declared.names.Kind.TheVariants.{Regular}
 use Rattle.walter_base.specs.declared.names.ObjId.{ObjId}
@@ -22,15 +26,17 @@ use Rattle.walter_base.specs.Conflicts.{first_outside, conflict_over}
 use Rattle.walter_base.specs.Names.{same_site}
 use Rattle.walter_base.specs.Vectors.{entry_at}
 use Rattle.walter_base.proofs.NameTests.{same_site-true, same_site_refl}
-use Rattle.walter_rules.specs.Allowed.{AreClear, Covers, IsUnseen, HaveSaidYes, IsNextCommit, AreLockable}
+use Rattle.walter_rules.specs.Allowed.{AreClear, Covers, IsUnseen, HaveSaidYes, IsNextCommit, AreLockable, IsUpdateCall, of_write, of_add, of_del, of_friend, of_unfriend}
+use Rattle.walter_rules.specs.Calls.{behind_at, first_behind}
 use Rattle.walter_rules.specs.Conflicts.{conflict_at, first_conflict, conflict_there, first_there}
 use Rattle.walter_rules.specs.Declarations.{is_of_kind, same_kind, are_declared, are_regular, are_lockable}
 use Rattle.walter_rules.specs.Deliveries.{is_peer, covers, accepts, is_unseen}
-use Rattle.walter_rules.specs.Knowledge.{Knowledge, preferred, site_at}
+use Rattle.walter_rules.specs.Knowledge.{Knowledge, preferred, site_at, sites}
+use Rattle.walter_rules.specs.Learning.{pair_asked, updates_asked}
 use Rattle.walter_rules.specs.Log.{row, version_of, seq_in, has_seen}
 use Rattle.walter_rules.specs.Objects.{objects_at}
 use Rattle.walter_rules.specs.Slow.{has_site}
-use Rattle.walter_rules.proofs.Membership.{each_passes, all_pass, one_passes, first_given, none_given, in_range}
+use Rattle.walter_rules.proofs.Membership.{each_passes, all_pass, one_passes, first_given, none_given, in_range, is_made}
 use Rattle.walter_rules.proofs.WrittenObjects.{in_objects_at}
 
 -- a site of a list
@@ -75,6 +81,35 @@ unseen_true K start tid is =
                 let clash : true ≡ false = sym seen ∙ none in cc)
           ];
     }
+
+-- a site of the catalog stands among its sites
+site_within : (catalog : Catalog) (k : SiteId) → k.0 < catalog.sites → Contains (sites catalog) k
+site_within catalog k below = is_made site_at (range_with_len 0 catalog.sites) k.0
+    (in_range 0 catalog.sites k.0 (omega arith) (omega (arith, below)))
+
+-- where a token of all sites sees more of none, so many are committed as it sees
+pub none_behind : (catalog : Catalog) (K : Knowledge) (token : List ℕ) → length token ≡ catalog.sites
+    → first_behind catalog K token ≡ None → Covers K.committed token
+none_behind catalog K token wide none k = elim (cases_lt k.0 catalog.sites) [
+  | inl within ↦ elim (cases_Bool (nat_lt (K.committed k) (entry_at token k))) [
+    | inl low ↦ absurd (let found = none_given (behind_at K token) (sites catalog) k none
+        (site_within catalog k within) in
+        let is : behind_at K token k ≡ Some (Behind k (K.committed k)) = rw low refl in
+        let clash : ◌≡◌ {A = Option Refusal} None (Some (Behind k (K.committed k))) = sym found ∙ is in cc)
+    | inr high ↦ ltb-false (K.committed k) (entry_at token k) high
+  ]
+  | inr past ↦ let none_there : slice_index token k.0 ≡ 0 = get_or_past token k.0 0 (omega (arith, past, wide)) in
+      omega (arith, none_there)
+]
+
+-- the updates that a call asks for
+pub asked_is : (friends : Option ℕ) (call : Result Request BadFrame) (updates : List Update)
+    → IsUpdateCall friends call updates → updates_asked friends call ≡ updates
+asked_is friends call updates (of_write oid bytes) = refl
+asked_is friends call updates (of_add oid id free) = refl
+asked_is friends call updates (of_del oid id free) = refl
+asked_is friends call updates (of_friend list a b at) = ap (λ o. pair_asked o a b true) at
+asked_is friends call updates (of_unfriend list a b at) = ap (λ o. pair_asked o a b false) at
 
 -- a commit that is accepted is the next of its site
 pub accepted : (catalog : Catalog) (K : Knowledge) (j : SiteId) (seq : ℕ) (tx : Tx)

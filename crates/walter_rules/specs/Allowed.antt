@@ -9,9 +9,9 @@ use Rattle.walter_base.specs.declared.message.Record.{Record}
 use Rattle.walter_base.specs.declared.message.Record.TheVariants.{Boot, Own, Got, Seen, Prepared, Released, SlowBegin, SlowEnd, Marks, Format as FormatRecord}
 use Rattle.walter_base.specs.declared.message.Refusal.{Refusal}
 use Rattle.walter_base.specs.declared.message.Reply.{Reply}
-use Rattle.walter_base.specs.declared.message.Reply.TheVariants.{Started, Value, Done, Set, Count, Committed, Aborted, Deciding, Level, Ended, Refused}
+use Rattle.walter_base.specs.declared.message.Reply.TheVariants.{Started, Value, Done, Set, Count, Committed, Aborted, Deciding, Level, Ended, Token as TokenIs, Refused}
 use Rattle.walter_base.specs.declared.message.Request.{Request}
-use Rattle.walter_base.specs.declared.message.Request.TheVariants.{Start, Read, Write, SetAdd, SetDel, SetRead, SetReadId, Commit, Abort, Level as LevelAsked, Handover}
+use Rattle.walter_base.specs.declared.message.Request.TheVariants.{Start, Read, Write, SetAdd, SetDel, SetRead, SetReadId, Commit, Abort, Level as LevelAsked, Handover, StartAt, Token, Befriend, Unfriend}
 use Rattle.walter_base.specs.declared.names.ObjId.{ObjId}
 use Rattle.walter_base.specs.declared.names.SiteId.{SiteId}
 use Rattle.walter_base.specs.declared.names.Tid.{Tid}
@@ -24,6 +24,7 @@ use Rattle.walter_base.specs.declared.transaction.Conflict.TheVariants.{Modified
 use Rattle.walter_base.specs.declared.transaction.Tx.{Tx}
 use Rattle.walter_base.specs.declared.update.Update.{Update}
 use Rattle.walter_base.specs.declared.update.Update.TheVariants.{Write as WriteOf, Add, Del}
+use Rattle.walter_base.specs.Friends.{pair, both}
 use Rattle.walter_base.specs.Values.{value_of, count_of, counts_of, write_set}
 use Rattle.walter_base.specs.Vectors.{entry_at}
 use Rattle.walter_rules.specs.declared.event.Event.{Event}
@@ -33,9 +34,9 @@ use Rattle.walter_rules.specs.declared.outcome.Outcome.{Outcome}
 use Rattle.walter_rules.specs.declared.outcome.Outcome.TheVariants.{Replied, Taken, Passed, Down}
 use Rattle.walter_rules.specs.Calls.{Expected, move_of, next_tid, next_seq, next_slow, own_version, read_updates, seq_of, level_of_own, is_issued, is_undecided, is_open}
 use Rattle.walter_rules.specs.Conflicts.{conflict_at, first_conflict, first_there, cause_of}
-use Rattle.walter_rules.specs.Declarations.{is_known, is_declared, are_declared, are_lockable}
+use Rattle.walter_rules.specs.Declarations.{is_known, are_declared, are_lockable}
 use Rattle.walter_rules.specs.Deliveries.{is_unseen}
-use Rattle.walter_rules.specs.Knowledge.{Knowledge, preferred, preferred_in, session_of}
+use Rattle.walter_rules.specs.Knowledge.{Knowledge, preferred, preferred_in, session_of, vector_of}
 use Rattle.walter_rules.specs.Learning.{after, heard}
 use Rattle.walter_rules.specs.Log.{commit_at, seq_in}
 use Rattle.walter_rules.specs.Marks.{durable_mark, visible_mark}
@@ -44,11 +45,17 @@ use Rattle.walter_rules.specs.Sessions.{Session, with_slow, tx_of}
 use Rattle.walter_rules.specs.Slow.{Undecided, Dropped, Decided, Free, Locked, Over}
 use Rattle.walter_rules.specs.Standing.{Standing}
 
--- the update that a call asks for
-pub data IsUpdateCall : Result Request BadFrame → Update → Type 0 where
-  of_write : (oid : ObjId) (bytes : List ℕ) → IsUpdateCall (Ok (Write oid bytes)) (WriteOf oid bytes)
-  of_add : (oid : ObjId) (id : ℕ) → IsUpdateCall (Ok (SetAdd oid id)) (Add oid id)
-  of_del : (oid : ObjId) (id : ℕ) → IsUpdateCall (Ok (SetDel oid id)) (Del oid id)
+-- the updates that a call asks for; those of friend lists come in pairs
+pub data IsUpdateCall (friends : Option ℕ) : Result Request BadFrame → List Update → Type 0 where
+  of_write : (oid : ObjId) (bytes : List ℕ) → IsUpdateCall friends (Ok (Write oid bytes)) (WriteOf oid bytes ∷ [])
+  of_add : (oid : ObjId) (id : ℕ) → friends ≢ Some oid.container
+      → IsUpdateCall friends (Ok (SetAdd oid id)) (Add oid id ∷ [])
+  of_del : (oid : ObjId) (id : ℕ) → friends ≢ Some oid.container
+      → IsUpdateCall friends (Ok (SetDel oid id)) (Del oid id ∷ [])
+  of_friend : (list a b : ℕ) → friends ≡ Some list
+      → IsUpdateCall friends (Ok (Befriend a b)) (both (pair list a b true))
+  of_unfriend : (list a b : ℕ) → friends ≡ Some list
+      → IsUpdateCall friends (Ok (Unfriend a b)) (both (pair list a b false))
 
 -- what a call that reads is answered, by these updates
 pub data IsReadCall : Result Request BadFrame → Reply → List Update → Type 0 where
@@ -82,6 +89,11 @@ AreLocal catalog i K updates = (oid : ObjId) → Contains (write_set updates) oi
 -- of each site so many are counted as the snapshot sees
 abbrev pub Covers : (SiteId → ℕ) → List ℕ → Type 0
 Covers counts snapshot = (k : SiteId) → entry_at snapshot k ≤ counts k
+
+-- a call that starts a transaction; a token that one starts at sees no more than is committed here
+pub data IsStartCall (K : Knowledge) : Result Request BadFrame → Type 0 where
+  of_start : IsStartCall K (Ok Start)
+  of_token : (token : List ℕ) → Covers K.committed token → IsStartCall K (Ok (StartAt token))
 
 -- the snapshot doesn't see the transaction: the site has received all that it sees, and that one not at all or under a
 -- number that it doesn't see
@@ -143,10 +155,11 @@ pub data HasRisen (catalog : Catalog) (i : SiteId) (before K : Knowledge) : Pack
 pub data IsKind (catalog : Catalog) (i : SiteId) (S : Standing) : Event → Option Record → Outcome → Type 0 where
   is_refused : (client : ℕ) (call : Result Request BadFrame) (refusal : Refusal)
       → IsKind catalog i S (Given (Call client call)) None (Replied (Refused refusal))
-  starts : (client : ℕ) → S.up ≡ true → session_of S.knows client ≡ None
-      → IsKind catalog i S (Given (Call client (Ok Start))) None (Replied (Started (next_tid i S.knows)))
-  does : (client : ℕ) (call : Result Request BadFrame) (s : Session) (update : Update) → HasOpen S client s
-      → IsUpdateCall call update → IsTrue (is_declared catalog update)
+  starts : (client : ℕ) (call : Result Request BadFrame) → S.up ≡ true → session_of S.knows client ≡ None
+      → IsStartCall S.knows call
+      → IsKind catalog i S (Given (Call client call)) None (Replied (Started (next_tid i S.knows)))
+  does : (client : ℕ) (call : Result Request BadFrame) (s : Session) (updates : List Update) → HasOpen S client s
+      → IsUpdateCall catalog.friends call updates → IsTrue (are_declared catalog updates)
       → IsKind catalog i S (Given (Call client call)) None (Replied Done)
   reads : (client : ℕ) (call : Result Request BadFrame) (s : Session) (reply : Reply) → HasOpen S client s
       → IsReadCall call reply (read_updates S.knows s)
@@ -191,6 +204,8 @@ pub data IsKind (catalog : Catalog) (i : SiteId) (S : Standing) : Event → Opti
       → seq_of i S.knows tid ≡ None → is_undecided S.knows tid ≡ false
       → is_open tid S.knows.sessions ≡ false → IsKind catalog i S (Given (Call client (Ok (LevelAsked tid)))) None
       (Replied (Level NotCommitted))
+  tells_token : (client : ℕ) → S.up ≡ true → IsKind catalog i S (Given (Call client (Ok Token))) None
+      (Replied (TokenIs (vector_of catalog S.knows)))
   passes : (event : Event) → IsKind catalog i S event None Passed
   receives : (j : SiteId) (number seq : ℕ) (tx : Tx) → IsFromPeer catalog i S j → IsNextCommit catalog S.knows j seq tx
       → IsKind catalog i S (Given (Deliver j number (Propagate seq tx))) (Some (Got j seq tx)) Taken

@@ -1,6 +1,6 @@
 -- What a site knows after a record, after a reply, and after what a peer said; and what is left of it at a stop. Each
 -- field goes by itself, by the record, the reply or the packet first.
-use Rattle.std.specs.Prelude.{ℕ, zero, suc, ◌+◌, nat_eq, max, Bool, not, List, [], ◌∷◌, ◌++◌, filter, Option, Some, None, Result, Ok, if◌then◌else◌}
+use Rattle.std.specs.Prelude.{ℕ, zero, suc, ◌+◌, nat_eq, max, Bool, not, List, [], ◌∷◌, ◌++◌, filter, Option, Some, None, Result, Ok, if◌then◌else◌, true, false}
 use Rattle.std.specs.List.{list_any}
 use Rattle.walter_base.specs.declared.catalog.Catalog.{Catalog}
 use Rattle.walter_base.specs.declared.message.BadFrame.{BadFrame}
@@ -10,7 +10,7 @@ use Rattle.walter_base.specs.declared.message.Record.{Record}
 use Rattle.walter_base.specs.declared.message.Record.TheVariants.{Boot, Own, Got, Seen, Prepared, Released, SlowBegin, SlowEnd, Marks, Format as FormatRecord}
 use Rattle.walter_base.specs.declared.message.Reply.TheVariants.{Started, Done, Committed, Aborted, Deciding, Ended, Unsure}
 use Rattle.walter_base.specs.declared.message.Request.{Request}
-use Rattle.walter_base.specs.declared.message.Request.TheVariants.{Write, SetAdd, SetDel, Handover}
+use Rattle.walter_base.specs.declared.message.Request.TheVariants.{Write, SetAdd, SetDel, Handover, Befriend, Unfriend}
 use Rattle.walter_base.specs.declared.names.ObjId.{ObjId}
 use Rattle.walter_base.specs.declared.names.SiteId.{SiteId}
 use Rattle.walter_base.specs.declared.names.Tid.{Tid}
@@ -18,8 +18,10 @@ use Rattle.walter_base.specs.declared.packet.Answer.TheVariants.{Yes, No}
 use Rattle.walter_base.specs.declared.packet.Packet.TheVariants.{Ack, Dsmark, Visible, Vote, Released as ReleasedSaid}
 use Rattle.walter_base.specs.declared.transaction.Conflict.{Conflict}
 use Rattle.walter_base.specs.declared.transaction.Tx.{Tx}
+use Rattle.walter_base.specs.declared.update.Update.{Update}
 use Rattle.walter_base.specs.declared.update.Update.TheVariants.{Write as WriteOf, Add, Del}
 use Rattle.walter_base.specs.ByClient.{changed, without}
+use Rattle.walter_base.specs.Friends.{pair, both}
 use Rattle.walter_base.specs.Names.{same_site}
 use Rattle.walter_base.specs.Values.{Handed, moves_of}
 use Rattle.walter_rules.specs.declared.event.Event.{Event}
@@ -31,7 +33,7 @@ use Rattle.walter_rules.specs.declared.outcome.Outcome.TheVariants.{Replied, Tak
 use Rattle.walter_rules.specs.Knowledge.{Knowledge, from_to, vector_of}
 use Rattle.walter_rules.specs.Log.{commit_at}
 use Rattle.walter_rules.specs.Objects.{objects_at, participants, places}
-use Rattle.walter_rules.specs.Sessions.{Session, Sessions, with_update, with_slow}
+use Rattle.walter_rules.specs.Sessions.{Session, Sessions, with_slow, with_updates}
 use Rattle.walter_rules.specs.Slow.{Slow, Undecided, ended, decided, Part, Locked, Over, is_slow, has_object, does_lock, unlocked}
 
 -- after a record
@@ -246,17 +248,28 @@ abbrev pub closed_by : Event → Sessions → Sessions
 closed_by (Given (Call client (Ok (Handover container to)))) sessions = sessions
 closed_by event sessions = closed event sessions
 
--- the session with the update that was asked for
-abbrev pub updated : Result Request BadFrame → Session → Session
-updated (Ok (Write oid bytes)) s = with_update (WriteOf oid bytes) s
-updated (Ok (SetAdd oid id)) s = with_update (Add oid id) s
-updated (Ok (SetDel oid id)) s = with_update (Del oid id) s
-updated call s = s
+-- the two updates of friends, where there are friend lists
+abbrev pub pair_asked : Option ℕ → ℕ → ℕ → Bool → List Update
+pair_asked None a b gain = []
+pair_asked (Some friends) a b gain = both (pair friends a b gain)
 
--- the sessions where that of the event's client has the update
-abbrev pub done : Event → Sessions → Sessions
-done (Given (Call client call)) sessions = changed client (updated call) sessions
-done event sessions = sessions
+-- the updates that a call asks for, by the container of the friend lists
+abbrev pub updates_asked : Option ℕ → Result Request BadFrame → List Update
+updates_asked friends (Ok (Write oid bytes)) = WriteOf oid bytes ∷ []
+updates_asked friends (Ok (SetAdd oid id)) = Add oid id ∷ []
+updates_asked friends (Ok (SetDel oid id)) = Del oid id ∷ []
+updates_asked friends (Ok (Befriend a b)) = pair_asked friends a b true
+updates_asked friends (Ok (Unfriend a b)) = pair_asked friends a b false
+updates_asked friends call = []
+
+-- the session with them
+abbrev pub updated : Option ℕ → Result Request BadFrame → Session → Session
+updated friends call s = with_updates (updates_asked friends call) s
+
+-- the sessions where that of the event's client has them
+abbrev pub done : Option ℕ → Event → Sessions → Sessions
+done friends (Given (Call client call)) sessions = changed client (updated friends call) sessions
+done friends event sessions = sessions
 
 -- the session with the number of the slow commit that was begun
 abbrev pub deciding : Option Record → Session → Session
@@ -268,22 +281,22 @@ abbrev pub begun_by : Event → Option Record → Sessions → Sessions
 begun_by (Given (Call client call)) wrote sessions = changed client (deciding wrote) sessions
 begun_by event wrote sessions = sessions
 
-abbrev pub sessions_after : Event → Outcome → Option Record → List ℕ → Sessions → Sessions
-sessions_after event (Replied (Started tid)) wrote snapshot sessions =
+abbrev pub sessions_after : Option ℕ → Event → Outcome → Option Record → List ℕ → Sessions → Sessions
+sessions_after friends event (Replied (Started tid)) wrote snapshot sessions =
     opened event (record { tid = tid; snapshot = snapshot; updates = []; slow = 0 }) sessions
-sessions_after event (Replied Done) wrote snapshot sessions = done event sessions
-sessions_after event (Replied (Committed version)) wrote snapshot sessions = closed_by event sessions
-sessions_after event (Replied (Aborted cause)) wrote snapshot sessions = closed event sessions
-sessions_after event (Replied (Deciding tid)) wrote snapshot sessions = begun_by event wrote sessions
-sessions_after event (Replied Ended) wrote snapshot sessions = closed event sessions
-sessions_after event (Replied (Unsure tid)) wrote snapshot sessions = closed_by event sessions
-sessions_after event outcome wrote snapshot sessions = sessions
+sessions_after friends event (Replied Done) wrote snapshot sessions = done friends event sessions
+sessions_after friends event (Replied (Committed version)) wrote snapshot sessions = closed_by event sessions
+sessions_after friends event (Replied (Aborted cause)) wrote snapshot sessions = closed event sessions
+sessions_after friends event (Replied (Deciding tid)) wrote snapshot sessions = begun_by event wrote sessions
+sessions_after friends event (Replied Ended) wrote snapshot sessions = closed event sessions
+sessions_after friends event (Replied (Unsure tid)) wrote snapshot sessions = closed_by event sessions
+sessions_after friends event outcome wrote snapshot sessions = sessions
 
 -- what is known after a reply, to an event that made this record stable
 abbrev pub answered : Catalog → Event → Outcome → Option Record → Knowledge → Knowledge
 answered catalog event outcome wrote K = record K {
   starts = starts_after event outcome K.starts;
-  sessions = sessions_after event outcome wrote (vector_of catalog K) K.sessions;
+  sessions = sessions_after catalog.friends event outcome wrote (vector_of catalog K) K.sessions;
 }
 
 -- after what a peer said, where it is taken
