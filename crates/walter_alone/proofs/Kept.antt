@@ -533,7 +533,7 @@ module _ (catalog : Catalog) (i : SiteId) (K : Knowledge) (flight : Option Recor
   pub hands_one : (client container : ℕ) (to : SiteId) (outcome : Outcome) (rec : Record) → IsPlain (Some rec)
       → CanFollow catalog i K rec
       → starts_after (Given (Call client (Ok (Handover container to)))) outcome K.starts ≡ K.starts + 1
-      → sessions_after (Given (Call client (Ok (Handover container to)))) outcome (Some rec)
+      → sessions_after catalog.friends (Given (Call client (Ok (Handover container to)))) outcome (Some rec)
       (vector_of catalog (recorded catalog i (Some rec) K)) K.sessions ≡ K.sessions
       → IsNewName (λ c. session_of K c) K.slow (record { epoch = K.epoch; starts = K.starts + 1 }) (Some rec)
       → IsKept catalog i true (Then (Given (Call client (Ok (Handover container to)))) outcome (Some rec)) None

@@ -1,7 +1,8 @@
 -- What a site keeps by itself, over each kind of step of it.
-use Rattle.std.proofs.Common.{◌≡◌, ◌+◌, ◌<◌, ℕ, nat_eq, true, false, List, [], ◌∷◌, ◌++◌, Some, None, IfSome, Ok, option_map, refl, ap, sym, ◌∙◌, subst, arith, inl, inr, if◌then◌else◌}
+use Rattle.std.proofs.Common.{◌≡◌, ◌+◌, ◌<◌, ℕ, nat_eq, true, false, not, ◌&&◌, List, [], ◌∷◌, ◌++◌, Some, None, IfSome, Ok, option_map, refl, ap, sym, ◌∙◌, subst, arith, inl, inr, if◌then◌else◌}
 use Rattle.std.specs.Prelude.{Option, Result}
-use Rattle.std.proofs.lemmas.Bool.{cases_Bool, eq-eqb}
+use Rattle.std.specs.List.{list_all}
+use Rattle.std.proofs.lemmas.Bool.{cases_Bool, eq-eqb, and_parts}
 use Rattle.std.proofs.lemmas.Option.{same_Some}
 use Rattle.std.proofs.lemmas.List.Folds.{list_all-append}
 use Rattle.walter_base.specs.declared.catalog.Catalog.{Catalog}
@@ -28,10 +29,10 @@ use Rattle.walter_rules.specs.declared.event.Event.TheVariants.{Given, Stop, Res
 use Rattle.walter_rules.specs.declared.event.Input.TheVariants.{Call, Deliver, Advance, Tick, Upgrade}
 use Rattle.walter_rules.specs.declared.outcome.Outcome.{Outcome}
 use Rattle.walter_rules.specs.declared.outcome.Outcome.TheVariants.{Replied, Taken, Passed, Failed, Full, Memory, Down}
-use Rattle.walter_rules.specs.Allowed.{IsKind, is_refused, starts, does, reads, ends, aborts, conflicts, commits, begins, moves, waits, tells_version, tells_cause, levels_own, is_deciding, is_running, denies, passes, receives, hears_ack, hears_durable, hears_visible, marks_durable, marks_visible, prepares, hears_yes, decides, gives_up, releases, hears_released, sees, upgrades, stops, is_down, boots, IsUpdateCall, IsReadCall, of_value, of_counts, of_count, HasOpen, tells_token}
+use Rattle.walter_rules.specs.Allowed.{IsKind, is_refused, starts, does, reads, ends, aborts, conflicts, commits, begins, moves, waits, tells_version, tells_cause, levels_own, is_deciding, is_running, denies, passes, receives, hears_ack, hears_durable, hears_visible, marks_durable, marks_visible, prepares, hears_yes, decides, gives_up, releases, hears_released, sees, upgrades, stops, is_down, boots, IsUpdateCall, of_write, of_add, of_del, of_friend, of_unfriend, IsReadCall, of_value, of_counts, of_count, HasOpen, tells_token}
 use Rattle.walter_rules.specs.Calls.{own_version, next_seq, next_slow, next_tid, read_updates, level_of_own, move_of}
 use Rattle.walter_rules.specs.Conflicts.{cause_of}
-use Rattle.walter_rules.specs.Declarations.{is_declared}
+use Rattle.walter_rules.specs.Declarations.{is_declared, are_declared}
 use Rattle.walter_rules.specs.Knowledge.{Knowledge, session_of, vector_of}
 use Rattle.walter_rules.specs.Layouts.{Layout}
 use Rattle.walter_rules.specs.Learning.{starts_after, sessions_after, updated, deciding, recorded, after, lost}
@@ -47,7 +48,7 @@ use Rattle.walter_agreement.proofs.Issued.{IsIssued, next_issued, next_not_issue
 use Rattle.walter_agreement.proofs.Tidy.{IsUnbegun}
 use Rattle.walter_alone.proofs.Alone.{issued_by, IsAlone}
 use Rattle.walter_alone.proofs.Followed.{kind_follows}
-use Rattle.walter_alone.proofs.SoundSessions.{is_writable, are_writable, writable_bare}
+use Rattle.walter_alone.proofs.SoundSessions.{is_move, is_writable, are_writable, writable_bare}
 use Rattle.walter_alone.proofs.Kept.{IsKept, hands_one, kept_at_first, IsPlain, IsNewName, CanBegin, unflown, issued_down, falls, settles, quiet, closes, changes, starts_one, begins_slow, boots_up, none_flying}
 use Rattle.walter_rules.proofs.Staying.{fault_falls}
 use Rattle.walter_runs.proofs.Steps.{IsStep, stable, flies, unread_step, wants, finds_full, step_of}
@@ -125,9 +126,22 @@ more_declared : (catalog : Catalog) (updates more : List Update) → are_writabl
 more_declared catalog updates more new all = list_all-append (is_writable catalog) updates more ∙ rw (all, new) refl
 
 -- what a call asks for hands nothing over
-asked_writable : (catalog : Catalog) (friends : Option ℕ) (call : Result Request BadFrame) (updates : List Update)
-    → IsUpdateCall friends call updates → are_declared catalog updates ≡ true → are_writable catalog updates ≡ true
-asked_writable catalog friends call updates asks declared = ?
+asked_bare : (friends : Option ℕ) (call : Result Request BadFrame) (updates : List Update)
+    → IsUpdateCall friends call updates → list_all (λ u. not (is_move u)) updates ≡ true
+asked_bare friends call updates (of_write oid bytes) = refl
+asked_bare friends call updates (of_add oid id free) = refl
+asked_bare friends call updates (of_del oid id free) = refl
+asked_bare friends call updates (of_friend list a b at) = refl
+asked_bare friends call updates (of_unfriend list a b at) = refl
+
+bare_writable : (catalog : Catalog) (updates : List Update) → list_all (λ u. not (is_move u)) updates ≡ true
+    → are_declared catalog updates ≡ true → are_writable catalog updates ≡ true
+bare_writable catalog [] bare declared = refl
+bare_writable catalog (u ∷ us) bare declared =
+    let here = and_parts (is_declared catalog u) (are_declared catalog us) declared in
+    let stays = and_parts (not (is_move u)) (list_all (λ v. not (is_move v)) us) bare in
+    let rest = bare_writable catalog us stays.1 here.1 in
+    rw (here.0, stays.0, rest) refl
 
 module _ (catalog : Catalog) (i : SiteId) (below : i.0 < catalog.sites) (S : Standing)
     (I : IsKept catalog i S.up S.knows S.flight) where
@@ -274,7 +288,7 @@ module _ (catalog : Catalog) (i : SiteId) (below : i.0 < catalog.sites) (S : Sta
       (with_updates updates) tt tt refl open_.session open_.is_open
       (λ z. refl) (λ z. refl) (λ z. refl)
       (λ z d. more_declared catalog z.updates updates
-      (asked_writable catalog catalog.friends call updates asks declared) d)
+      (bare_writable catalog updates (asked_bare catalog.friends call updates asks) declared) d)
       (λ c. lookup-changed client c (updated catalog.friends call) S.knows.sessions
       ∙ ap (λ us. if nat_eq client c then option_map (with_updates us) (session_of S.knows c) else
       session_of S.knows c) (asked_is catalog.friends call updates asks)) tt)

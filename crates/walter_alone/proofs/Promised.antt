@@ -250,11 +250,11 @@ module _ (catalog : Catalog) (layout : Layout) (i : SiteId) (S : Standing) (even
   abbrev asks : Input
   asks = Call caught.client (Ok (StartAt caught.token))
 
-  rule_starts : rule catalog i S (Given asks) ≡ answers (Started (next_tid i S.knows))
+  rule_starts : rule (header_of layout) catalog i S (Given asks) ≡ answers (Started (next_tid i S.knows))
   rule_starts =
       let token : List ℕ = caught.token in
       let K : Knowledge = S.knows in
-      ap (λ b. rule_where b catalog i S asks) caught.up
+      ap (λ b. rule_where b (header_of layout) catalog i S asks) caught.up
       ∙ (ap (λ gone. if_told (Ok (StartAt token)) gone
       (call_rule catalog i K (Ok (StartAt token)) (session_of K caught.client))) caught.owed
       ∙ (ap (starts_at_for catalog i K token) caught.none

@@ -26,8 +26,8 @@ pub fn a_restart_keeps_what_is_journaled()
 /// meets no conflict, gives up only for want of memory or of place in the journal. So it is with a commit that a peer
 /// sends and that is the next of that peer, with one that can be committed here, and with the locks that a slow
 /// commit of a peer asks for. Where these meet a conflict, the peer is told NO only over an object that isn't preferred
-/// here, over a version outside its snapshot, or over a lock whose owner is known to be outside. A transaction starts at
-/// a token where all that the token sees is committed here, or memory runs out.
+/// here, over a version outside its snapshot, or over a lock whose owner is known to be outside. A transaction starts
+/// at a token where all that the token sees is committed here, or memory runs out.
 pub fn right_trails_keep_promises()
     ensures committed { (catalog : Catalog) (layout : Layout) (i : SiteId) (older : List Entry) (e : Entry)
         (s : Session) → IsRightEntry catalog layout i older e → IsFree catalog i (standing catalog i older) e.event s

@@ -12,16 +12,18 @@ use Rattle.walter_base.specs.declared.message.Level.{Level as HowFar}
 use Rattle.walter_base.specs.declared.message.Level.TheVariants.{NotCommitted, Running, Deciding as BeingDecided, Committed as IsCommitted, Durable, Visible}
 use Rattle.walter_base.specs.declared.message.Record.{Record}
 use Rattle.walter_base.specs.declared.message.Record.TheVariants.{Own, Seen}
-use Rattle.walter_base.specs.declared.message.Reply.TheVariants.{Value, Done, Set, Count, Committed, Aborted, Level}
+use Rattle.walter_base.specs.declared.message.Reply.TheVariants.{Value, Done, Set, Count, Committed, Aborted, Level, Unsure}
 use Rattle.walter_base.specs.declared.message.Request.{Request}
-use Rattle.walter_base.specs.declared.message.Request.TheVariants.{Read as ReadAsked, SetRead, SetReadId, Level as LevelAsked}
+use Rattle.walter_base.specs.declared.message.Request.TheVariants.{Read as ReadAsked, SetRead, SetReadId, Level as LevelAsked, Handover}
 use Rattle.walter_base.specs.declared.names.SiteId.{SiteId}
 use Rattle.walter_base.specs.declared.names.Tid.{Tid}
+use Rattle.walter_base.specs.declared.names.Version.{Version}
 use Rattle.walter_base.specs.declared.transaction.Tx.{Tx}
 use Rattle.walter_base.specs.declared.update.Update.{Update}
+use Rattle.walter_base.specs.declared.update.Update.TheVariants.{Move}
 use Rattle.walter_base.specs.Friends.{pair, both}
 use Rattle.walter_base.specs.Names.{same_tid}
-use Rattle.walter_base.proofs.Friends.{ArePaired, paired_mutual, none_paired, more_paired, all_paired, write_paired, add_paired, del_paired, pair_paired}
+use Rattle.walter_base.proofs.Friends.{ArePaired, paired_mutual, none_paired, more_paired, all_paired, write_paired, move_paired, add_paired, del_paired, pair_paired}
 use Rattle.walter_psi.specs.declared.step.Step.{Step}
 use Rattle.walter_psi.specs.declared.step.Step.TheVariants.{Op, Commit, Arrive}
 use Rattle.walter_psi.specs.Histories.{log, snapshot, done, own_updates, given, committed_updates}
@@ -48,7 +50,7 @@ use Rattle.walter_alone.proofs.Promised.{given_comes}
 use Rattle.walter_linked.specs.Catalogs.{IsWhole}
 use Rattle.walter_linked.proofs.Whole.{run_homes, run_behind}
 use Rattle.walter_refinement.specs.Friends.{AreFriendsMutual}
-use Rattle.walter_refinement.specs.Spelled.{recorded, arrived, of_session, told, aborted, saw, saw_set, saw_count, told_level, leveled, replied, answered, history}
+use Rattle.walter_refinement.specs.Spelled.{recorded, arrived, of_session, told, told_by, told_of, aborted, saw, saw_set, saw_count, told_level, leveled, replied, answered, handing, opened_by, opened, history}
 use Rattle.walter_refinement.proofs.RunSpells.{run_spells}
 use Rattle.walter_refinement.proofs.Tokens.{call_kind}
 
@@ -80,6 +82,20 @@ leveled_neither Visible tid x = (refl, refl)
 level_neither : (level : HowFar) (call : Result Request BadFrame) → DoNeither (told_level level call)
 level_neither level (Ok (LevelAsked tid)) x = leveled_neither level tid x
 level_neither level call x = (refl, refl)
+
+told_by_neither : (version : Version) (wrote : Option Record) → DoNeither (told_by version wrote)
+told_by_neither version None x = (refl, refl)
+told_by_neither version (Some (Own seq tx)) x = (refl, refl)
+told_by_neither version (Some rec) x = (refl, refl)
+
+session_told_neither : (version : Version) (session : Option Session) → DoNeither (of_session (told version) session)
+session_told_neither version None x = (refl, refl)
+session_told_neither version (Some s) x = (refl, refl)
+
+told_of_neither : (wrote : Option Record) (version : Version) (call : Result Request BadFrame)
+    (session : Option Session) → DoNeither (told_of wrote version call session)
+told_of_neither wrote version (Ok (Handover container to)) session = told_by_neither version wrote
+told_of_neither wrote version call session = session_told_neither version session
 
 -- the updates of steps that do them
 ops_own : (x tid : Tid) (us : List Update)
@@ -167,35 +183,60 @@ module _ (friends : ℕ) where
       ])
       (λ x. subst (ArePaired friends) (sym (ops_commit_none x s.tid us)) (none_paired friends))
 
-  pairs_replied : (steps : List Step) (container : Option ℕ) (i : SiteId) (outcome : Outcome)
+  pairs_replied : (steps : List Step) (container : Option ℕ) (i : SiteId) (wrote : Option Record) (outcome : Outcome)
       (call : Result Request BadFrame) (session : Option Session)
       → (outcome ≡ Replied Done → ArePaired friends (updates_asked container call)) → HavePairs friends steps
-      → HavePairs friends (steps ++ replied container i outcome call session)
-  pairs_replied steps container i (Replied Done) call session paired have =
+      → HavePairs friends (steps ++ replied container i wrote outcome call session)
+  pairs_replied steps container i wrote (Replied Done) call session paired have =
       pairs_done steps (updates_asked container call) session (paired refl) have
-  pairs_replied steps container i (Replied (Value value)) call session paired have =
+  pairs_replied steps container i wrote (Replied (Value value)) call session paired have =
       pairs_of_session steps (saw call value) session (saw_neither call value) have
-  pairs_replied steps container i (Replied (Set counts)) call session paired have =
+  pairs_replied steps container i wrote (Replied (Set counts)) call session paired have =
       pairs_of_session steps (saw_set call counts) session (saw_set_neither call counts) have
-  pairs_replied steps container i (Replied (Count n)) call session paired have =
+  pairs_replied steps container i wrote (Replied (Count n)) call session paired have =
       pairs_of_session steps (saw_count call n) session (saw_count_neither call n) have
-  pairs_replied steps container i (Replied (Committed version)) call session paired have =
-      pairs_of_session steps (told version) session (λ s x. (refl, refl)) have
-  pairs_replied steps container i (Replied (Aborted cause)) call session paired have =
+  pairs_replied steps container i wrote (Replied (Committed version)) call session paired have =
+      pairs_neither steps (told_of wrote version call session) have (told_of_neither wrote version call session)
+  pairs_replied steps container i wrote (Replied (Aborted cause)) call session paired have =
       pairs_of_session steps (aborted cause) session (λ s x. (refl, refl)) have
-  pairs_replied steps container i (Replied (Level level)) call session paired have =
+  pairs_replied steps container i wrote (Replied (Level level)) call session paired have =
       pairs_neither steps (told_level level call) have (level_neither level call)
-  pairs_replied steps container i outcome call session paired have =
-      pairs_neither steps (replied container i outcome call session) have (λ x. (refl, refl))
+  pairs_replied steps container i wrote outcome call session paired have =
+      pairs_neither steps (replied container i wrote outcome call session) have (λ x. (refl, refl))
 
-  pairs_answered : (steps : List Step) (container : Option ℕ) (i : SiteId) (S : Standing) (outcome : Outcome)
-      (event : Event)
+  pairs_answered : (steps : List Step) (container : Option ℕ) (i : SiteId) (S : Standing) (wrote : Option Record)
+      (outcome : Outcome) (event : Event)
       → ((client : ℕ) (call : Result Request BadFrame) → event ≡ Given (Call client call) → outcome ≡ Replied Done
       → ArePaired friends (updates_asked container call)) → HavePairs friends steps
-      → HavePairs friends (steps ++ answered container i S outcome event)
-  pairs_answered steps container i S outcome (Given (Call client call)) paired have =
-      pairs_replied steps container i outcome call (session_of S.knows client) (paired client call refl) have
-  pairs_answered steps container i S outcome event paired have = pairs_neither steps [] have (λ x. (refl, refl))
+      → HavePairs friends (steps ++ answered container i S wrote outcome event)
+  pairs_answered steps container i S wrote outcome (Given (Call client call)) paired have =
+      pairs_replied steps container i wrote outcome call (session_of S.knows client) (paired client call refl) have
+  pairs_answered steps container i S wrote outcome event paired have =
+      pairs_neither steps [] have (λ x. (refl, refl))
+
+  -- the steps of a transaction that hands a container over: its update is in no friend list
+  pairs_handing : (steps : List Step) (i : SiteId) (tid : Tid) (container : ℕ) (to : SiteId) → HavePairs friends steps
+      → HavePairs friends (steps ++ handing i tid container to)
+  pairs_handing steps i tid container to have =
+      pairs_more steps (handing i tid container to) have (λ x. elim (same_tid x tid) as
+      (λ b. ArePaired friends ((if b then Move container to ∷ [] else []) ++ [])) [
+        | true ↦ move_paired friends container to
+        | false ↦ none_paired friends
+      ]) (λ x. none_paired friends)
+
+  pairs_opened_by : (steps : List Step) (i : SiteId) (container : ℕ) (to : SiteId) (wrote : Option Record)
+      → HavePairs friends steps → HavePairs friends (steps ++ opened_by i container to wrote)
+  pairs_opened_by steps i container to None have = pairs_neither steps [] have (λ x. (refl, refl))
+  pairs_opened_by steps i container to (Some (Own seq tx)) have = pairs_handing steps i tx.tid container to have
+  pairs_opened_by steps i container to (Some rec) have = pairs_neither steps [] have (λ x. (refl, refl))
+
+  pairs_opened : (steps : List Step) (i : SiteId) (wrote : Option Record) (outcome : Outcome) (event : Event)
+      → HavePairs friends steps → HavePairs friends (steps ++ opened i wrote outcome event)
+  pairs_opened steps i wrote (Replied (Committed version)) (Given (Call client (Ok (Handover container to)))) have =
+      pairs_opened_by steps i container to wrote have
+  pairs_opened steps i wrote (Replied (Unsure tid)) (Given (Call client (Ok (Handover container to)))) have =
+      pairs_handing steps i tid container to have
+  pairs_opened steps i wrote outcome event have = pairs_neither steps [] have (λ x. (refl, refl))
 
   -- updates that a call asks for come in pairs
   asked_paired : (container : Option ℕ) (call : Result Request BadFrame) (updates : List Update)
@@ -230,18 +271,24 @@ module _ (catalog : Catalog) (layouts : SiteId → Layout) (whole : IsWhole cata
       let i = n.0 in
       let kept : List Step = recorded W i n.1.came.kept in
       let wrote : List Step = recorded W i n.1.came.wrote in
-      let said : List Step = answered catalog.friends i (W i) n.1.came.outcome n.1.event in
+      let begun : List Step = opened i n.1.came.wrote n.1.came.outcome n.1.event in
+      let said : List Step = answered catalog.friends i (W i) n.1.came.wrote n.1.came.outcome n.1.event in
+      let front : List Step = (H ++ kept) ++ begun in
       let homes = run_homes catalog layouts whole n older is in
-      let legal : IsLegal (H ++ (kept ++ (wrote ++ said))) =
+      let legal : IsLegal (H ++ (kept ++ (begun ++ (wrote ++ said)))) =
       (run_spells catalog layouts homes (n ∷ older) is).spelled.legal in
-      let split : ((H ++ kept) ++ wrote) ++ said ≡ H ++ (kept ++ (wrote ++ said)) =
-      append_assoc (H ++ kept) wrote said ∙ append_assoc H kept (wrote ++ said) in
-      let legal_wrote : IsLegal ((H ++ kept) ++ wrote) =
-      legal_front ((H ++ kept) ++ wrote) said (subst IsLegal (sym split) legal) in
-      let legal_kept : IsLegal (H ++ kept) = legal_front (H ++ kept) wrote legal_wrote in
+      let split : (front ++ wrote) ++ said ≡ H ++ (kept ++ (begun ++ (wrote ++ said))) =
+      append_assoc front wrote said
+      ∙ (append_assoc (H ++ kept) begun (wrote ++ said) ∙ append_assoc H kept (begun ++ (wrote ++ said))) in
+      let legal_wrote : IsLegal (front ++ wrote) =
+      legal_front (front ++ wrote) said (subst IsLegal (sym split) legal) in
+      let legal_begun : IsLegal front = legal_front front wrote legal_wrote in
+      let legal_kept : IsLegal (H ++ kept) = legal_front (H ++ kept) begun legal_begun in
       let first = pairs_recorded friends H W i n.1.came.kept legal_kept have in
-      let second = pairs_recorded friends (H ++ kept) W i n.1.came.wrote legal_wrote first in
-      let third = pairs_answered friends ((H ++ kept) ++ wrote) catalog.friends i (W i) n.1.came.outcome n.1.event
+      let opening = pairs_opened friends (H ++ kept) i n.1.came.wrote n.1.came.outcome n.1.event first in
+      let second = pairs_recorded friends front W i n.1.came.wrote legal_wrote opening in
+      let third = pairs_answered friends (front ++ wrote) catalog.friends i (W i) n.1.came.wrote n.1.came.outcome
+      n.1.event
       (λ client call asked done_. asked_paired friends catalog.friends call
       (updates_asked catalog.friends call) at
       (kind_does catalog i (W i) client call n.1.came.wrote

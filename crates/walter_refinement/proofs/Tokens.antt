@@ -50,7 +50,7 @@ use Rattle.walter_linked.specs.Catalogs.{IsWhole}
 use Rattle.walter_linked.proofs.Agreed.{owns, counts}
 use Rattle.walter_linked.proofs.Runs.{run_alone, run_agrees}
 use Rattle.walter_linked.proofs.Whole.{run_homes, run_behind}
-use Rattle.walter_refinement.specs.Spelled.{history, steps_of, recorded, answered}
+use Rattle.walter_refinement.specs.Spelled.{history, steps_of, recorded, opened, answered}
 use Rattle.walter_refinement.specs.Tokens.{GivesToken, StartsAtToken, AreTokensKept}
 use Rattle.walter_refinement.proofs.Facts.{row_logged}
 use Rattle.walter_refinement.proofs.Moves.{held, numbers, spent, Spells}
@@ -154,11 +154,15 @@ module _ (catalog : Catalog) (layouts : SiteId → Layout) (homes : (oid : ObjId
       let kept = none_found S n.1.event n.1.came.kept at.client (StartAt token) is.1.right.kept at.asked in (
         so.1,
         ap (λ t. history catalog older ++ t)
-            (ap (λ rec. recorded W n.0 rec ++ (recorded W n.0 n.1.came.wrote
-            ++ answered catalog.friends n.0 S n.1.came.outcome n.1.event)) kept
-            ∙ (ap (λ rec. recorded W n.0 rec ++ answered catalog.friends n.0 S n.1.came.outcome n.1.event) so.0
-            ∙ (ap (λ (o : Outcome). answered catalog.friends n.0 S o n.1.event) at.started
-            ∙ ap (λ (e : Event). answered catalog.friends n.0 S (Replied (Started x)) e) at.asked))),
+            (ap (λ rec. recorded W n.0 rec ++ (opened n.0 n.1.came.wrote n.1.came.outcome n.1.event
+            ++ (recorded W n.0 n.1.came.wrote
+            ++ answered catalog.friends n.0 S n.1.came.wrote n.1.came.outcome n.1.event))) kept
+            ∙ (ap (λ rec. opened n.0 rec n.1.came.outcome n.1.event
+            ++ (recorded W n.0 rec ++ answered catalog.friends n.0 S rec n.1.came.outcome n.1.event)) so.0
+            ∙ (ap (λ (o : Outcome). opened n.0 None o n.1.event
+            ++ answered catalog.friends n.0 S None o n.1.event) at.started
+            ∙ ap (λ (e : Event). opened n.0 None (Replied (Started x)) e
+            ++ answered catalog.friends n.0 S None (Replied (Started x)) e) at.asked))),
       )
 
 -- an own commit stands at its place among the commits of its site

@@ -19,11 +19,13 @@ use Rattle.walter_txcode.specs.declared.fault.DecodeFault.TheVariants.{Unspelled
 use Rattle.walter_txcode.specs.Faults.{IfUnspelled, NoneBegins}
 use Rattle.walter_names.specs.Names.{object_spelled, tid_spelled, IsObject, IsTid, member_spelled, move_spelled}
 use Rattle.walter_base.specs.Sizes.{HasShortValue, size_in, size_of_vector, size_of_update, most_in, size_of}
-use Rattle.walter_txcode.specs.Spelling.{longest, numbers_spelled, vector_spelled, value_spelled, update_spelled, updates_spelled, head_spelled, spelling, AreFew, IsUpdate, HasSpelling}
+use Rattle.walter_txcode.specs.Spelling.{longest, vector_spelled, value_spelled, update_spelled, updates_spelled, head_spelled, spelling, AreFew, IsUpdate, HasSpelling}
+use Rattle.walter_names.specs.Vectors.{numbers_spelled}
 use Rattle.walter_names.proofs.Lengths.{length-tid_spelled, length-member_spelled, length-move_spelled}
-use Rattle.walter_txcode.proofs.Lengths.{length-numbers_spelled, length-value_spelled, length-update_spelled, length-updates_spelled, length-head_spelled, length-vector_spelled}
+use Rattle.walter_txcode.proofs.Lengths.{length-value_spelled, length-update_spelled, length-updates_spelled, length-head_spelled, length-vector_spelled}
+use Rattle.walter_names.proofs.Numbers.{length-numbers_spelled, same_numbers}
 use Rattle.walter_names.proofs.Prefixes.{same_object, same_tid}
-use Rattle.walter_txcode.proofs.Prefixes.{few_of, same_numbers, vector_parts, vector_told, kind_of, fields_spelled, behind_kind, same_update, AreSpellable, AreSpellable-from_both, each_spelled, each_parts, HasHead, same_head, same_updates, first_two}
+use Rattle.walter_txcode.proofs.Prefixes.{few_of, vector_parts, vector_told, kind_of, fields_spelled, behind_kind, same_update, AreSpellable, AreSpellable-from_both, each_spelled, each_parts, HasHead, same_head, same_updates, first_two}
 
 pub IfUnspelled-weaker : (fault : DecodeFault) {P Q : Type 0} → (P → Q) → IfUnspelled fault P → IfUnspelled fault Q
 IfUnspelled-weaker Unspelled f h = f h
@@ -158,15 +160,6 @@ no_updates k left mid low is none us rest fits few e =
     none us rest (sym behind.0) fits few.values behind.1
 
 -- ---- vectors
-
--- the numbers that were read before the bytes ran out
-pub too_few_numbers : (count i : ℕ) (v left mid : List ℕ) → left ≡ numbers_spelled (take i v) ++ mid → length v ≡ count → i < count → length mid < 8 → length left < 8 * count
-too_few_numbers count i v left mid is long more few =
-    omega (arith, ap length is, length-append (numbers_spelled (take i v)) mid, length-numbers_spelled (take i v), length-take i v)
-
-pub enough_numbers : (count i : ℕ) (v left mid : List ℕ) → left ≡ numbers_spelled (take i v) ++ mid → length v ≡ count → count ≤ i → 8 * count ≤ length left
-enough_numbers count i v left mid is long all =
-    omega (arith, ap length is, length-append (numbers_spelled (take i v)) mid, length-numbers_spelled (take i v), length-take i v)
 
 -- zeros that were read, and no zero behind them
 no_zeros : (i more : ℕ) (left mid : List ℕ) → left ≡ numbers_spelled (replicate i 0) ++ mid → ((rest : List ℕ) → mid ≢ number_spelled 8 0 ++ rest)

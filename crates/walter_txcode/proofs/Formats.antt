@@ -12,8 +12,9 @@ use Rattle.walter_fields.specs.Spellings.{number_spelled}
 use Rattle.walter_fields.proofs.Numbers.{length-number_spelled, same_number}
 use Rattle.walter_names.specs.Names.{tid_spelled}
 use Rattle.walter_names.proofs.Lengths.{length-tid_spelled}
-use Rattle.walter_txcode.specs.Spelling.{numbers_spelled, vector_spelled, updates_spelled, update_spelled, spelling, HasSpelling}
-use Rattle.walter_txcode.proofs.Lengths.{length-numbers_spelled}
+use Rattle.walter_txcode.specs.Spelling.{vector_spelled, updates_spelled, update_spelled, spelling, HasSpelling}
+use Rattle.walter_names.specs.Vectors.{numbers_spelled}
+use Rattle.walter_names.proofs.Numbers.{length-numbers_spelled}
 use Rattle.walter_txcode.proofs.Prefixes.{first_two, vector_parts, vector_told, each_spelled}
 
 -- what follows fronts of one length is the same

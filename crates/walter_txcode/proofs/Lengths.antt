@@ -16,13 +16,9 @@ use Rattle.walter_fields.specs.Spellings.{number_spelled, block_spelled}
 use Rattle.walter_fields.proofs.Numbers.{length-number_spelled}
 use Rattle.walter_names.proofs.Lengths.{length-object_spelled, length-tid_spelled, length-member_spelled, length-move_spelled, length-block_spelled}
 use Rattle.walter_names.specs.Names.{object_spelled, tid_spelled, member_spelled, move_spelled}
-use Rattle.walter_txcode.specs.Spelling.{numbers_spelled, vector_spelled, value_spelled, update_spelled, updates_spelled, head_spelled, spelling}
-
-pub length-numbers_spelled : (numbers : List ℕ) → length (numbers_spelled numbers) ≡ 8 * length numbers
-length-numbers_spelled [] = refl
-length-numbers_spelled (n ∷ numbers) =
-    let others = length-numbers_spelled numbers in
-    rw flat_map-cons (omega (arith, length-append (number_spelled 8 n) (numbers_spelled numbers), length-number_spelled 8 n))
+use Rattle.walter_txcode.specs.Spelling.{vector_spelled, value_spelled, update_spelled, updates_spelled, head_spelled, spelling}
+use Rattle.walter_names.specs.Vectors.{numbers_spelled}
+use Rattle.walter_names.proofs.Numbers.{length-numbers_spelled}
 
 pub length-vector_spelled : (format : Format) (vector : List ℕ) → length vector ≤ most_in format
     → length (vector_spelled format vector) ≡ size_of_vector format vector

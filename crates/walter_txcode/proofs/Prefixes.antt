@@ -18,25 +18,9 @@ use Rattle.walter_fields.proofs.Readings.{same_block}
 use Rattle.walter_names.proofs.Prefixes.{regrouped, same_object, same_tid, same_member, same_move}
 use Rattle.walter_names.specs.Names.{object_spelled, tid_spelled, IsObject, IsTid, member_spelled, move_spelled}
 use Rattle.walter_base.specs.Sizes.{HasShortValue, CanBeSpelled}
-use Rattle.walter_txcode.specs.Spelling.{numbers_spelled, vector_spelled, value_spelled, update_spelled, updates_spelled, head_spelled, spelling, AreFew, IsUpdate, HasSpelling}
-
-each_number : (xs ys x y : List ℕ) → length xs ≡ length ys → AllByRecursion (λ n. n < 2 ^ 64) xs → AllByRecursion (λ n. n < 2 ^ 64) ys
-    → numbers_spelled xs ++ x ≡ numbers_spelled ys ++ y → (xs ≡ ys) × (x ≡ y)
-each_number [] [] x y long fits_x fits_y e = (refl, e)
-each_number [] (n ∷ ys) x y long fits_x fits_y e = absurd (omega (arith, long))
-each_number (m ∷ xs) [] x y long fits_x fits_y e = absurd (omega (arith, long))
-each_number (m ∷ xs) (n ∷ ys) x y long fits_x fits_y e =
-    let low_m : m < 2 ^ 64 = fits_x.0 in
-    let low_n : n < 2 ^ 64 = fits_y.0 in
-    let split : (number_spelled 8 m ++ numbers_spelled xs) ++ x ≡ (number_spelled 8 n ++ numbers_spelled ys) ++ y =
-    ap (λ t. t ++ x) (sym (flat_map-cons (number_spelled 8) m xs)) ∙ e ∙ ap (λ t. t ++ y) (flat_map-cons (number_spelled 8) n ys) in
-    let one = same_number 8 m n (numbers_spelled xs ++ x) (numbers_spelled ys ++ y) (omega (arith, low_m)) (omega (arith, low_n)) (regrouped (number_spelled 8 m) (numbers_spelled xs) x (number_spelled 8 n) (numbers_spelled ys) y split) in
-    let others = each_number xs ys x y (omega (arith, long)) fits_x.1 fits_y.1 one.1 in
-    ((λ i. one.0 i ∷ others.0 i), others.1)
-
-pub same_numbers : (xs ys x y : List ℕ) → length xs ≡ length ys → All (λ n. n < 2 ^ 64) xs → All (λ n. n < 2 ^ 64) ys → numbers_spelled xs ++ x ≡ numbers_spelled ys ++ y → (xs ≡ ys) × (x ≡ y)
-same_numbers xs ys x y long fits_x fits_y e =
-    each_number xs ys x y long (recursion_from_All (λ n. n < 2 ^ 64) xs fits_x) (recursion_from_All (λ n. n < 2 ^ 64) ys fits_y) e
+use Rattle.walter_txcode.specs.Spelling.{vector_spelled, value_spelled, update_spelled, updates_spelled, head_spelled, spelling, AreFew, IsUpdate, HasSpelling}
+use Rattle.walter_names.specs.Vectors.{numbers_spelled}
+use Rattle.walter_names.proofs.Numbers.{same_numbers}
 
 -- in the first format a vector is its numbers, and then 0
 pub vector_parts : (v rest : List ℕ) → vector_spelled First v ++ rest ≡ numbers_spelled v ++ (numbers_spelled (replicate (8 - length v) 0) ++ rest)

@@ -11,16 +11,13 @@ use Rattle.walter_base.specs.declared.update.Update.{Update}
 use Rattle.walter_base.specs.declared.update.Update.TheVariants.{Write, Add, Del, Move}
 use Rattle.walter_fields.specs.Spellings.{number_spelled, block_spelled}
 use Rattle.walter_names.specs.Names.{object_spelled, tid_spelled, member_spelled, move_spelled, IsObject, IsTid, IsMember, IsMove}
-
--- eight bytes for each number
-abbrev pub numbers_spelled : List ℕ → List ℕ
-numbers_spelled numbers = flat_map (number_spelled 8) numbers
+use Rattle.walter_names.specs.Vectors.{numbers_spelled, told_spelled}
 
 -- in the first format a number for each of eight sites: those of the sites, and then 0; in the second the width, and
 -- the numbers
 abbrev pub vector_spelled : Format → List ℕ → List ℕ
 vector_spelled First vector = numbers_spelled (vector ++ replicate (8 - length vector) 0)
-vector_spelled Second vector = number_spelled 1 (length vector) ++ numbers_spelled vector
+vector_spelled Second vector = told_spelled vector
 
 -- the object and the value of a write
 abbrev pub value_spelled : ObjId → List ℕ → List ℕ
