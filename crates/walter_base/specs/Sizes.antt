@@ -12,7 +12,7 @@ use Rattle.walter_base.specs.declared.packet.Answer.TheVariants.{Yes, No, Later}
 use Rattle.walter_base.specs.declared.transaction.Conflict.{Conflict}
 use Rattle.walter_base.specs.declared.transaction.Conflict.TheVariants.{Modified, Locked, Dead, Moving}
 use Rattle.walter_base.specs.declared.message.Reply.{Reply}
-use Rattle.walter_base.specs.declared.message.Reply.TheVariants.{Value, Set}
+use Rattle.walter_base.specs.declared.message.Reply.TheVariants.{Value, Set, Token}
 use Rattle.walter_base.specs.declared.transaction.Tx.{Tx}
 use Rattle.walter_base.specs.declared.update.Update.{Update}
 use Rattle.walter_base.specs.declared.update.Update.TheVariants.{Write, Add, Del, Move}
@@ -125,8 +125,9 @@ CanBeSent (Vote slow answer) = Unit {0}
 CanBeSent (Release slow) = Unit {0}
 CanBeSent (ReleasedSaid slow) = Unit {0}
 
--- the value in a reply is short, and so are the counts
+-- the value in a reply is short, and so are the counts and the token
 abbrev pub IsShortReply : Reply → Type 0
 IsShortReply (Value (Some bytes)) = length bytes ≤ 4096
 IsShortReply (Set counts) = length counts ≤ 4095
+IsShortReply (Token token) = length token ≤ most_sites
 IsShortReply reply = Unit {0}
