@@ -73,7 +73,7 @@ module _ (catalog : Catalog) (i : SiteId) (W : Stands) (put : Put) (h : List Ste
 
   -- a token
   pub token_told : (token : List ℕ) → Spells (at_site i (replied_so (Token token)) W)
-      (h ++ (recorded W i None ++ answered catalog.friends i (W i) (Replied (Token token)) (Given (Call client call))))
+      (h ++ (recorded W i None ++ answered catalog.friends i (W i) None (Replied (Token token)) (Given (Call client call))))
   token_told token = nothing (Token token) [] refl
       (λ x g. issued_same (W i).up (W i).knows (replied_so (Token token)).knows x refl (omega arith) g)
       (λ c s has. has) (λ s has. has)
