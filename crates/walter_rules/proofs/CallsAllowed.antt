@@ -35,7 +35,7 @@ use Rattle.walter_rules.specs.declared.event.Event.TheVariants.{Given}
 use Rattle.walter_rules.specs.declared.event.Input.TheVariants.{Call}
 use Rattle.walter_rules.specs.declared.outcome.Outcome.{Outcome}
 use Rattle.walter_rules.specs.declared.outcome.Outcome.TheVariants.{Replied}
-use Rattle.walter_rules.specs.Allowed.{IsKind, IsAllowed, HasOpen, HasBegun, IsUpdateCall, IsReadCall, AreClear, MayMove, IsStartCall}
+use Rattle.walter_rules.specs.Allowed.{IsKind, IsAllowed, HasOpen, HasBegun, IsUpdateCall, IsReadCall, AreClear, IsStartCall}
 use Rattle.walter_rules.specs.Calls.{Expected, move_of, moves, busy_with, if_free, hands_over, answers, refuses, read_updates, next_tid, next_seq, next_slow, own_version, commits_fast, begins_slow, if_local, decides, commits_open, seq_of, tells_version, tells_cause, tells_decision, commits_by, if_whole, if_regular, if_counted, if_cset, has_place, updates_with, writes, shows, is_undecided, is_open, level_of_own, level_by, level_of, is_issued, if_open, open_in, starts_for, commits_for, with_open, call_rule, if_told, down_rule, first_behind, starts_unless, starts_from, starts_at_for, if_unreserved, has_places, befriends}
 use Rattle.walter_rules.specs.Conflicts.{first_conflict, cause_of}
 use Rattle.walter_rules.specs.Declarations.{is_of_kind, is_declared, is_known, are_declared}

@@ -29,11 +29,11 @@ use Rattle.walter_base.proofs.NameTests.{same_site-true, same_site_refl}
 use Rattle.walter_rules.specs.Allowed.{AreClear, Covers, IsUnseen, HaveSaidYes, IsNextCommit, AreLockable, IsUpdateCall, of_write, of_add, of_del, of_friend, of_unfriend}
 use Rattle.walter_rules.specs.Calls.{behind_at, first_behind}
 use Rattle.walter_rules.specs.Conflicts.{conflict_at, first_conflict, conflict_there, first_there}
-use Rattle.walter_rules.specs.Declarations.{is_of_kind, same_kind, are_declared, are_regular, are_lockable}
+use Rattle.walter_rules.specs.Declarations.{is_of_kind, same_kind, are_declared, are_regular}
 use Rattle.walter_rules.specs.Deliveries.{is_peer, covers, accepts, is_unseen}
 use Rattle.walter_rules.specs.Knowledge.{Knowledge, preferred, site_at, sites}
 use Rattle.walter_rules.specs.Learning.{pair_asked, updates_asked}
-use Rattle.walter_rules.specs.Log.{row, version_of, seq_in, has_seen}
+use Rattle.walter_rules.specs.Log.{row, version_of, has_seen}
 use Rattle.walter_rules.specs.Objects.{objects_at}
 use Rattle.walter_rules.specs.Slow.{has_site}
 use Rattle.walter_rules.proofs.Membership.{each_passes, all_pass, one_passes, first_given, none_given, in_range, is_made}

@@ -1,5 +1,5 @@
 -- How far the own commits are durable, and visible, by what a site knows (docs/SITE.md, "Durable and visible").
-use Rattle.std.specs.Prelude.{ℕ, zero, suc, ◌+◌, nat_eq, nat_le, max, Bool, true, ◌&&◌, ◌||◌, count_by, if◌then◌else◌}
+use Rattle.std.specs.Prelude.{ℕ, zero, suc, ◌+◌, nat_eq, nat_le, max, Bool, ◌&&◌, ◌||◌, count_by, if◌then◌else◌}
 use Rattle.std.specs.List.{list_all}
 use Rattle.walter_base.specs.declared.catalog.Catalog.{Catalog}
 use Rattle.walter_base.specs.declared.names.SiteId.{SiteId}
