@@ -1,5 +1,5 @@
 -- What a site keeps by itself, over each kind of step of it.
-use Rattle.std.proofs.Common.{◌≡◌, ◌+◌, ◌<◌, ℕ, nat_eq, true, false, not, ◌&&◌, List, [], ◌∷◌, ◌++◌, Some, None, IfSome, Ok, option_map, refl, ap, sym, ◌∙◌, subst, arith, inl, inr, if◌then◌else◌}
+use Rattle.std.proofs.Common.{◌≡◌, ◌+◌, ◌<◌, ℕ, nat_eq, true, false, not, List, [], ◌∷◌, ◌++◌, Some, None, IfSome, Ok, option_map, refl, ap, sym, ◌∙◌, subst, arith, inl, inr, if◌then◌else◌}
 use Rattle.std.specs.Prelude.{Option, Result}
 use Rattle.std.specs.List.{list_all}
 use Rattle.std.proofs.lemmas.Bool.{cases_Bool, eq-eqb, and_parts}

@@ -1,7 +1,7 @@
 -- A client that is owed the news of a transaction that is gone has no other.
 use Rattle.std.proofs.Common.{◌≡◌, ◌⊎◌, ℕ, nat_eq, nat_lt, Bool, true, false, not, ◌&&◌, cond, List, [], ◌∷◌, ◌++◌, Option, Some, None, option_map, refl, ap, sym, ◌∙◌, subst, inl, inr, if◌then◌else◌}
 use Rattle.std.proofs.lemmas.Bool.{eqb-true}
-use Rattle.std.specs.Prelude.{Result, Ok, Err, IfSome}
+use Rattle.std.specs.Prelude.{Result, Ok, Err}
 use Rattle.walter_alone.specs.Owing.{IsOwedAlone}
 use Rattle.walter_base.proofs.ByClient.{turned, absent_head, absent_tail, lookup-changed, lookup-without}
 use Rattle.walter_base.specs.ByClient.{changed, without}

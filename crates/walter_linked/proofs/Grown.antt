@@ -30,7 +30,7 @@ use Rattle.walter_agreement.specs.Locking.{IsUnmodified, IsUnlocked}
 use Rattle.walter_agreement.proofs.Cases.{site_cases, slow_cases, not_unused}
 use Rattle.walter_agreement.proofs.Lists.{IsPrefix, prefix_refl, prefix_more, prefix_get}
 use Rattle.walter_alone.proofs.Kept.{one_more_grows, committed_grows}
-use Rattle.walter_linked.proofs.Agreed.{Stands, Put, logs, owns, received, counts, slows, wants, placed, prefers, parts, IsOver, IsSo, IsFast, IsVoted, IsHanding, IsDue}
+use Rattle.walter_linked.proofs.Agreed.{Stands, Put, logs, owns, received, counts, slows, wants, placed, prefers, parts, IsOver, IsSo, IsDue}
 
 -- site i has this record behind what it had, and the others stand as they stood
 pub record IsRecorded (catalog : Catalog) (i : SiteId) (rec : Option Record) (W Then : Stands) : Type 0 where

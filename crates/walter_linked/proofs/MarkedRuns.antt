@@ -14,7 +14,6 @@ use Rattle.walter_base.specs.declared.message.Request.{Request}
 use Rattle.walter_base.specs.declared.update.Update.{Update}
 use Rattle.walter_base.specs.declared.message.Reply.TheVariants.{Level}
 use Rattle.walter_base.specs.declared.message.Request.TheVariants.{Level as LevelAsked}
-use Rattle.walter_base.specs.declared.names.ObjId.{ObjId}
 use Rattle.walter_base.specs.declared.names.SiteId.{SiteId}
 use Rattle.walter_base.specs.declared.names.Tid.{Tid}
 use Rattle.walter_base.specs.Names.{same_tid}

@@ -1,14 +1,12 @@
 -- A mark of a site that has heard what is so is true.
-use Rattle.std.proofs.Common.{◌≡◌, ◌≢◌, ◌+◌, ◌-◌, ◌<◌, ◌≤◌, ℕ, zero, suc, nat_eq, nat_le, ◌&&◌, Bool, true, false, List, [], ◌∷◌, length, slice_get, Some, refl, ap, sym, ◌∙◌, subst, arith, inl, inr, if◌then◌else◌}
-use Rattle.std.specs.Prelude.{Contains, option_map, not}
+use Rattle.std.proofs.Common.{◌≡◌, ◌≢◌, ◌+◌, ◌-◌, ◌<◌, ◌≤◌, ℕ, zero, suc, nat_eq, nat_le, ◌&&◌, Bool, true, false, List, [], ◌∷◌, length, slice_get, Some, refl, ap, sym, subst, arith, inl, inr, if◌then◌else◌}
+use Rattle.std.specs.Prelude.{Contains, not}
 use Rattle.std.specs.List.{count_by}
 use Rattle.std.proofs.lemmas.Bool.{eqb-true, leb-true, cases_order}
 use Rattle.walter_base.specs.declared.catalog.Catalog.{Catalog}
-use Rattle.walter_base.specs.declared.names.ObjId.{ObjId}
 use Rattle.walter_base.specs.declared.names.SiteId.{SiteId}
 use Rattle.walter_base.specs.Names.{same_site}
 use Rattle.walter_base.proofs.NameTests.{both}
-use Rattle.walter_rules.specs.declared.held.Held.{Held}
 use Rattle.walter_rules.specs.Knowledge.{Knowledge, sites, peers}
 use Rattle.walter_rules.specs.Learning.{lost}
 use Rattle.walter_rules.specs.Marks.{passed, holds, is_at_homes, is_held, is_visible, durable_mark, visible_mark}

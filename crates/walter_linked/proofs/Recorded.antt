@@ -1,6 +1,6 @@
 -- Numbers, logs and locks are kept by each record that may come.
 use Rattle.std.proofs.Common.{◌≡◌, ◌≢◌, ◌+◌, ◌-◌, ◌<◌, ◌≤◌, ◌⊎◌, ℕ, zero, suc, nat_eq, true, false, List, ◌∷◌, [], length, slice_get, Some, None, refl, ap, sym, ◌∙◌, subst, arith, inl, inr, if◌then◌else◌}
-use Rattle.std.specs.Prelude.{Option, IfSome, Contains, option_map}
+use Rattle.std.specs.Prelude.{Option, IfSome, option_map}
 use Rattle.std.proofs.lemmas.Bool.{cases_eq, eqb-true, eq-eqb, ne_eqb}
 use Rattle.std.proofs.lemmas.List.{length-append}
 use Rattle.std.proofs.lemmas.Option.{same_Some}
@@ -13,7 +13,7 @@ use Rattle.walter_base.specs.declared.names.Tid.{Tid}
 use Rattle.walter_base.specs.declared.packet.Packet.TheVariants.{Propagate, Prepare, Release}
 use Rattle.walter_base.specs.declared.transaction.Tx.{Tx}
 use Rattle.walter_base.specs.Names.{same_site}
-use Rattle.walter_base.specs.Values.{moves_of, write_set}
+use Rattle.walter_base.specs.Values.{moves_of}
 use Rattle.walter_base.specs.Vectors.{entry_at}
 use Rattle.walter_rules.specs.declared.held.Held.{Held}
 use Rattle.walter_rules.specs.Knowledge.{Knowledge, declared_home, holder_from, holder, preferred_in}

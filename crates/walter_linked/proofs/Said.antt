@@ -25,7 +25,7 @@ use Rattle.walter_rules.specs.declared.event.Event.TheVariants.{Given}
 use Rattle.walter_rules.specs.declared.event.Input.TheVariants.{Deliver}
 use Rattle.walter_rules.specs.declared.held.Held.{Held}
 use Rattle.walter_rules.specs.Allowed.{IsTrueOf, IsMet, IsUnseen, IsOwnerUnseen}
-use Rattle.walter_rules.specs.Conflicts.{conflict_at, conflict_there}
+use Rattle.walter_rules.specs.Conflicts.{conflict_at}
 use Rattle.walter_rules.specs.Knowledge.{Knowledge}
 use Rattle.walter_rules.specs.Learning.{lost}
 use Rattle.walter_rules.specs.Log.{is_of, of_site, commit_at, version_of, wrote, row, sees}
@@ -33,7 +33,7 @@ use Rattle.walter_rules.specs.Slow.{Decided, Locked, begun}
 use Rattle.walter_rules.proofs.Membership.{kept_from, made_from, first_given, first_given_by}
 use Rattle.walter_rules.proofs.RuleTests.{one_meets_there, there_meets}
 use Rattle.walter_agreement.proofs.Cases.{site_cases, zero_or, not_unused, locked_not_free, locked_not_over, decided_not_open, object_in}
-use Rattle.walter_agreement.proofs.Lists.{prefix_get, filter_place, place_filtered}
+use Rattle.walter_agreement.proofs.Lists.{prefix_get, place_filtered}
 use Rattle.walter_alone.proofs.Alone.{IsAlone}
 use Rattle.walter_linked.proofs.Agreed.{Stands, Put, logs, owns, counts, slows, wants, parts, AreOthers, IsOver, IsSo, AreAgreed}
 use Rattle.walter_linked.proofs.Grown.{HasGrown, over_later}
