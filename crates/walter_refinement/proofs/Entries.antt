@@ -254,7 +254,7 @@ module _ (owns : SiteId → List Held) (counts : SiteId → SiteId → ℕ) (num
   }
 
   -- Op
-  did_op : (c : Key) (s : Session) (u : Update) (after : Key → Option Session) → sessions c ≡ Some s
+  pub did_op : (c : Key) (s : Session) (u : Update) (after : Key → Option Session) → sessions c ≡ Some s
       → IsLive owns counts h s → IsWith c (with_updates (u ∷ []) s) sessions after
       → IsSpelledAt owns counts numbers after spent (h ++ Op s.tid u ∷ [])
   did_op c s u after has l with_mine =

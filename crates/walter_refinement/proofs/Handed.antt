@@ -12,7 +12,6 @@ use Rattle.walter_base.specs.declared.message.Request.TheVariants.{Handover}
 use Rattle.walter_base.specs.declared.names.SiteId.{SiteId}
 use Rattle.walter_base.specs.declared.names.Tid.{Tid}
 use Rattle.walter_base.specs.declared.transaction.Tx.{Tx}
-use Rattle.walter_base.specs.declared.update.Update.{Update}
 use Rattle.walter_base.specs.declared.update.Update.TheVariants.{Move}
 use Rattle.walter_base.specs.Names.{same_site}
 use Rattle.walter_base.specs.Vectors.{entry_at}
@@ -30,7 +29,7 @@ use Rattle.walter_rules.specs.declared.held.Held.{Held}
 use Rattle.walter_rules.specs.declared.outcome.Outcome.TheVariants.{Replied}
 use Rattle.walter_rules.specs.Calls.{move_of, next_seq, next_tid, own_version}
 use Rattle.walter_rules.specs.Knowledge.{session_of, vector_of}
-use Rattle.walter_rules.specs.Log.{of_site, version_of}
+use Rattle.walter_rules.specs.Log.{of_site}
 use Rattle.walter_rules.specs.Sending.{Send}
 use Rattle.walter_rules.specs.Sessions.{Session}
 use Rattle.walter_rules.specs.Standing.{Standing}
@@ -43,9 +42,9 @@ use Rattle.walter_refinement.specs.Spelled.{recorded as spelled_by, answered, op
 use Rattle.walter_refinement.proofs.Entries.{did_start, did_op, did_tell_version, fewer}
 use Rattle.walter_refinement.proofs.Facts.{not_blocked}
 use Rattle.walter_refinement.proofs.Flights.{none_flies}
-use Rattle.walter_refinement.proofs.Going.{IsFinal, IsQuiet, quiet_by, dropped_final, decided_final, then_, same_then, final_then}
+use Rattle.walter_refinement.proofs.Going.{IsFinal, quiet_by, dropped_final, decided_final, then_, same_then, final_then}
 use Rattle.walter_refinement.proofs.Keys.{with_by}
-use Rattle.walter_refinement.proofs.Moves.{in_flight, held_by, held, numbers, spent, spent_by, Spells, GoesOn, HoldsFewer, HasSame, IsDecidedBy, views, at_here, higher, not_by, commits, same_owns, same_counts, still_spent, still_decided}
+use Rattle.walter_refinement.proofs.Moves.{in_flight, held_by, held, numbers, spent, spent_by, Spells, GoesOn, HoldsFewer, HasSame, IsDecidedBy, at_here, higher, not_by, commits, same_owns, same_counts, still_spent, still_decided}
 use Rattle.walter_refinement.proofs.Others.{issued_fall}
 use Rattle.walter_refinement.proofs.OwnSteps.{one_more, own_log}
 use Rattle.walter_refinement.proofs.Quiet.{issued_same, live_open}

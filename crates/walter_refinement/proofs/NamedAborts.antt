@@ -1,5 +1,5 @@
 -- Each abort but one that was asked for has its conflict, where it was met.
-use Rattle.std.proofs.Common.{◌≡◌, ◌≢◌, ℕ, ◌<◌, List, [], ◌∷◌, ◌++◌, map, refl, ap, sym, ◌∙◌, subst, arith, Some, None, inl, inr}
+use Rattle.std.proofs.Common.{◌≡◌, ◌≢◌, ℕ, List, [], ◌∷◌, ◌++◌, map, refl, ap, sym, ◌∙◌, subst, arith, Some, None, inl, inr}
 use Rattle.std.specs.Prelude.{Option, Contains, IfSome, Ok}
 use Rattle.std.proofs.lemmas.List.Elements.{Contains-append_cases}
 use Rattle.std.proofs.lemmas.Option.{same_Some}
@@ -46,7 +46,7 @@ use Rattle.walter_alone.proofs.KeptSteps.{right_alone, settled_alone}
 use Rattle.walter_linked.proofs.Said.{over_locked, unseen_here}
 use Rattle.walter_linked.proofs.Runs.{found, found_here, run_alone, next_step, run_agrees, put_later}
 use Rattle.walter_linked.proofs.Whole.{run_behind}
-use Rattle.walter_refinement.specs.Named.{IsMetAt, IsAwayAt, IsMetThere, IsConflictNamed, IsNamed}
+use Rattle.walter_refinement.specs.Named.{IsMetThere, IsConflictNamed, IsNamed}
 
 -- where an abort comes from, at a site that stands so
 pub data IsAbort (catalog : Catalog) (i : SiteId) (S : Standing) (event : Event) (cause : Cause) : Type 0 where

@@ -1,5 +1,5 @@
 -- What a token brings with it, of each run.
-use Rattle.std.proofs.Common.{◌≡◌, ℕ, ◌+◌, ◌<◌, List, [], ◌∷◌, ◌++◌, refl, ap, sym, ◌∙◌, subst, arith, slice_get, Some, None, IfSome, Result, Ok, reverse, inl, inr}
+use Rattle.std.proofs.Common.{◌≡◌, ℕ, ◌<◌, List, [], ◌∷◌, ◌++◌, refl, ap, sym, ◌∙◌, subst, arith, slice_get, Some, None, IfSome, Result, Ok, reverse, inl, inr}
 use Rattle.std.specs.Prelude.{Option, Contains}
 use Rattle.std.proofs.lemmas.List.{append-nil, append_assoc}
 use Rattle.std.proofs.lemmas.List.Concat.{flat_map-append}
@@ -13,7 +13,6 @@ use Rattle.walter_base.specs.declared.message.Reply.{Reply}
 use Rattle.walter_base.specs.declared.message.Reply.TheVariants.{Started, Unsure, Refused, Token as TokenIs}
 use Rattle.walter_base.specs.declared.message.Request.{Request}
 use Rattle.walter_base.specs.declared.message.Request.TheVariants.{StartAt, Token}
-use Rattle.walter_base.specs.declared.names.ObjId.{ObjId}
 use Rattle.walter_base.specs.declared.names.SiteId.{SiteId}
 use Rattle.walter_base.specs.declared.names.Tid.{Tid}
 use Rattle.walter_base.specs.Vectors.{entry_at}
@@ -42,7 +41,7 @@ use Rattle.walter_rules.specs.Trails.{Comes, IsFound, failure}
 use Rattle.walter_runs.specs.Runs.{stands, IsRun, AreRightTrails}
 use Rattle.walter_runs.proofs.Running.{merged_run}
 use Rattle.walter_runs.proofs.Steps.{IsStep, stable, flies, unread_step, wants, finds_full, step_of}
-use Rattle.walter_alone.proofs.Alone.{home}
+use Rattle.walter_alone.proofs.Alone.{HasHomes}
 use Rattle.walter_alone.proofs.KeptSteps.{right_alone, settled_alone}
 use Rattle.walter_alone.proofs.Promised.{given_comes}
 use Rattle.walter_alone.proofs.TestsPass.{all_of}
@@ -123,7 +122,7 @@ none_found S event (Some rec) client request found asked =
     absurd (let restart = found.restart in
     let e : Given (Call client (Ok request)) ≡ Restart = sym asked ∙ restart in cc)
 
-module _ (catalog : Catalog) (layouts : SiteId → Layout) (homes : (oid : ObjId) → (home catalog oid).0 < catalog.sites)
+module _ (catalog : Catalog) (layouts : SiteId → Layout) (homes : HasHomes catalog)
     (older : List Named) (n : Named) (is : IsRun catalog layouts (n ∷ older)) where
   -- a token has of each site as many as were committed
   token_is : (token : List ℕ) → GivesToken n token → (k : SiteId)
@@ -166,7 +165,7 @@ module _ (catalog : Catalog) (layouts : SiteId → Layout) (homes : (oid : ObjId
       )
 
 -- an own commit stands at its place among the commits of its site
-module _ (catalog : Catalog) (layouts : SiteId → Layout) (homes : (oid : ObjId) → (home catalog oid).0 < catalog.sites)
+module _ (catalog : Catalog) (layouts : SiteId → Layout) (homes : HasHomes catalog)
     (run : List Named) (is : IsRun catalog layouts run) where
   sp : Spells (stands catalog run) (history catalog run)
   sp = run_spells catalog layouts homes run is
