@@ -1,10 +1,10 @@
 -- Bytes that end within a request are the front of a spelling.
 use Rattle.std.proofs.Common.{◌≡◌, ◌≢◌, ℕ, ◌*◌, ◌^◌, ◌<◌, List, [], ◌∷◌, ◌++◌, length, refl, sym, ap, subst, ◌∙◌, append_assoc, arith}
 use Rattle.std.specs.Prelude.{All}
-use Rattle.std.proofs.lemmas.List.{length-append, nil_from_length}
+use Rattle.std.proofs.lemmas.List.{length-append, nil_from_length, append-nil}
 use Rattle.std.proofs.lemmas.List.Elements.{All-from_recursion}
 use Rattle.walter_base.specs.declared.message.Request.{Request}
-use Rattle.walter_base.specs.declared.message.Request.TheVariants.{Start, Read, Write, SetRead, Level, Handover, StartAt, Befriend, Unfriend}
+use Rattle.walter_base.specs.declared.message.Request.TheVariants.{Start, Read, Write, SetRead, Level, Handover, StartAt}
 use Rattle.walter_base.specs.declared.names.ObjId.{ObjId}
 use Rattle.walter_fields.specs.Cursors.{Remainder, Takes, LacksBlock}
 use Rattle.walter_fields.specs.Spellings.{IsBytes, number_spelled, block_spelled}
@@ -14,7 +14,7 @@ use Rattle.walter_names.specs.Names.{object_spelled, tid_spelled, IsObject, memb
 use Rattle.walter_names.specs.Vectors.{numbers_spelled, told_spelled, IsWidth, IsVector}
 use Rattle.walter_names.proofs.Cuts.{cut_object, cut_tid, cut_member, cut_move, cut_persons, cut_numbers, cut_block}
 use Rattle.walter_names.proofs.Numbers.{length-told_spelled}
-use Rattle.walter_request.specs.Requests.{request_spelled, IsRequest, Spells, IsOperation}
+use Rattle.walter_request.specs.Requests.{request_spelled, IsRequest, Spells, IsOperation, NeedsMemory, for_bytes, for_token}
 use Rattle.walter_request.specs.Stops.{IsFront, StartsUnknown, HasNoWidth, LeavesSome, with_operation}
 
 empty_is_front : IsFront []
@@ -149,3 +149,22 @@ leaves_write old mid new oid bytes fits short object block some =
       };
       some = some;
     }
+
+-- ---- a Write, and a token, for which memory is wanting
+
+pub needs_bytes : (old mid new : Remainder) (oid : ObjId) (bytes : List ℕ) → IsObject oid → length bytes < 2 ^ 32 → Takes old mid (object_spelled oid) → Takes mid new (block_spelled bytes) → new.left ≡ []
+    → NeedsMemory (number_spelled 1 3 ++ old.left)
+needs_bytes old mid new oid bytes fits short object block none =
+    let fields = Takes-then old mid new (object_spelled oid) (block_spelled bytes) object block in
+    let all : List ℕ = object_spelled oid ++ block_spelled bytes in
+    for_bytes oid bytes (record { ranges = (fits, short); is = ap (λ t. number_spelled 1 3 ++ t) (fields.front ∙ ap (λ t. all ++ t) none ∙ append-nil all) })
+
+pub needs_token : (old mid new : Remainder) (width : ℕ) (token : List ℕ) → IsWidth width → length token ≡ width → All (λ n. n < 2 ^ 64) token → Takes old mid (number_spelled 1 width) → Takes mid new (numbers_spelled token)
+    → new.left ≡ [] → NeedsMemory (number_spelled 1 12 ++ old.left)
+needs_token old mid new width token wide count ranges first numbers none =
+    let fields = Takes-then old mid new (number_spelled 1 width) (numbers_spelled token) first numbers in
+    let all : List ℕ = number_spelled 1 width ++ numbers_spelled token in
+    for_token token (record {
+      ranges = record { wide = subst IsWidth (sym count) wide; ranges = ranges };
+      is = ap (λ t. number_spelled 1 12 ++ t) (fields.front ∙ ap (λ t. all ++ t) none ∙ append-nil all ∙ ap (λ n. number_spelled 1 n ++ numbers_spelled token) (sym count));
+    })
