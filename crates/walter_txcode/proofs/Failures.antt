@@ -1,7 +1,7 @@
 -- Where a part can't be read, the bytes don't begin with the spelling of any value that has the part.
-use Rattle.std.proofs.Common.{◌≡◌, ◌≢◌, ℕ, suc, ◌+◌, ◌-◌, ◌*◌, ◌^◌, ◌<◌, ◌≤◌, List, [], ◌∷◌, ◌++◌, length, take, replicate, Result, Ok, Err, sym, ap, subst, ◌∙◌, append_assoc, arith}
+use Rattle.std.proofs.Common.{◌≡◌, ◌≢◌, ℕ, suc, ◌+◌, ◌-◌, ◌*◌, ◌^◌, ◌<◌, ◌≤◌, List, [], ◌∷◌, ◌++◌, length, replicate, Result, Ok, Err, sym, ap, subst, ◌∙◌, append_assoc, arith}
 use Rattle.std.specs.Prelude.{◌↔◌, All, flat_map, sum_by, IfErr, IsErrAnd}
-use Rattle.std.proofs.lemmas.List.{length-append, length-take, append_cancel_left, replicate-append-replicate}
+use Rattle.std.proofs.lemmas.List.{length-append, append_cancel_left, replicate-append-replicate}
 use Rattle.std.proofs.lemmas.List.Concat.{flat_map-append, flat_map-cons}
 use Rattle.walter_base.specs.declared.format.Format.{Format}
 use Rattle.walter_base.specs.declared.format.Format.TheVariants.{First, Second}
@@ -18,7 +18,7 @@ use Rattle.walter_txcode.specs.declared.fault.DecodeFault.{DecodeFault}
 use Rattle.walter_txcode.specs.declared.fault.DecodeFault.TheVariants.{Unspelled, NoMemory}
 use Rattle.walter_txcode.specs.Faults.{IfUnspelled, NoneBegins}
 use Rattle.walter_names.specs.Names.{object_spelled, tid_spelled, IsObject, IsTid, member_spelled, move_spelled}
-use Rattle.walter_base.specs.Sizes.{HasShortValue, size_in, size_of_vector, size_of_update, most_in, size_of}
+use Rattle.walter_base.specs.Sizes.{HasShortValue, size_in, size_of_vector, size_of_update, most_in}
 use Rattle.walter_txcode.specs.Spelling.{longest, vector_spelled, value_spelled, update_spelled, updates_spelled, head_spelled, spelling, AreFew, IsUpdate, HasSpelling}
 use Rattle.walter_names.specs.Vectors.{numbers_spelled}
 use Rattle.walter_names.proofs.Lengths.{length-tid_spelled, length-member_spelled, length-move_spelled}
