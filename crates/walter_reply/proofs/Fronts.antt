@@ -1,6 +1,6 @@
 -- Bytes that end within a reply are the front of a spelling.
 use Rattle.std.proofs.Common.{◌≡◌, ◌≢◌, ℕ, ◌*◌, ◌-◌, ◌^◌, ◌<◌, List, [], ◌∷◌, ◌++◌, length, refl, sym, ap, subst, ◌∙◌, inl, inr, append_assoc, append-nil, arith}
-use Rattle.std.specs.Prelude.{Some, None, All}
+use Rattle.std.specs.Prelude.{Some, None}
 use Rattle.std.specs.Int.{w64, cast_signed}
 use Rattle.std.proofs.Math.Facts.{sfits_to_z}
 use Rattle.std.proofs.lemmas.Int.{of_z-to_z}
