@@ -1,6 +1,5 @@
-use Rattle.std.proofs.Common.{◌≡◌, None, sym, subst}
-use Rattle.std.specs.Map.{keys_of}
-use Rattle.walter_locks.specs.Firsts.{first_from, IsFirstOwned}
+use Rattle.std.proofs.Common.{sym, subst}
+use Rattle.walter_locks.specs.Firsts.{IsFirstOwned}
 use Rattle.walter_locks.specs.Parts.{Table, owner_of, owner_in}
 use Rattle.walter_locks.proofs.Firsts.{first_owned}
 use Rattle.walter_locks.proofs.locks.Locks.busy.Goals as goal
