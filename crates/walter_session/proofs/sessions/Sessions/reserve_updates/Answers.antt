@@ -1,4 +1,4 @@
-use Rattle.std.proofs.Common.{◌≤◌, ◌<◌, ◌∙◌, is_some, ap, sym, subst, refl}
+use Rattle.std.proofs.Common.{◌≤◌, ◌∙◌, is_some, ap, sym, subst, refl}
 use Rattle.std.proofs.lemmas.Bool.{eq-eqb}
 use Rattle.std.proofs.lemmas.Grind.{common_steps}
 use Rattle.std.proofs.Common.{arith, if◌then◌else◌}
