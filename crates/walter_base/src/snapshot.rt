@@ -1,6 +1,6 @@
 //! The vector that a transaction reads at, on the heap once for all its owners.
 ghost use Rattle.std.specs.Prelude.{◌≡◌, ◌≤◌, length, take, IfOk};
-ghost use Rattle.walter_base.specs.Snapshots.{numbers_in};
+ghost use Rattle.walter_base.specs.Vectors.{most_sites};
 
 use crate::vts::Vts;
 use std::alloc::{AllocError, Global};
@@ -54,14 +54,22 @@ impl Snapshot {
         Ok(Snapshot { numbers })
     }
 
+    /// The numbers of the sites that there are.
+    pub fn as_slice(&self) -> &[u64]
+        ensures same { result.now ≡ self.now }
+        ensures few { length self.now ≤ most_sites }
+    {
+        match &self.numbers {
+            Numbers::Few(few) => &few.numbers[..usize::from(few.sites)],
+            Numbers::Many(vector) => vector.as_slice(),
+        }
+    }
+
     /// A copy of the vector, off the heap.
     pub fn vector(&self) -> Vts
         ensures { result ≡ self.now }
     {
-        match &self.numbers {
-            Numbers::Few(few) => Vts::from_slice(&few.numbers[..usize::from(few.sites)]),
-            Numbers::Many(vector) => **vector,
-        }
+        Vts::from_slice(self.as_slice())
     }
 }
 
