@@ -59,7 +59,8 @@ impl<'a> Cursor<'a> {
     }
 
     /// So many bytes.
-    fn take(&mut self, count: usize) -> Result<&'a [u8], Short>
+    pub fn bytes(&mut self, count: usize) -> Result<&'a [u8], Short>
+        ensures taken { IfOk result (λ bytes. Takes self.old self.new bytes.now) }
         ensures counted { IfOk result (λ front. length front.now ≡ count) }
         ensures number { IfOk result
             (λ front. Takes self.old self.new (number_spelled count (number_read count front.now))) }
@@ -80,7 +81,7 @@ impl<'a> Cursor<'a> {
         ensures short { IsErr result ↔ (length self.old.left < 1) }
         ensures err { IfErr result (IsWanting self.old self.new) }
     {
-        Ok(self.take(1)?[0])
+        Ok(self.bytes(1)?[0])
     }
 
     /// A number of two bytes, the highest first.
@@ -90,7 +91,7 @@ impl<'a> Cursor<'a> {
         ensures short { IsErr result ↔ (length self.old.left < 2) }
         ensures err { IfErr result (IsWanting self.old self.new) }
     {
-        Ok(BigEndian::read_u16(self.take(2)?))
+        Ok(BigEndian::read_u16(self.bytes(2)?))
     }
 
     /// A number of four bytes, the highest first.
@@ -100,7 +101,7 @@ impl<'a> Cursor<'a> {
         ensures short { IsErr result ↔ (length self.old.left < 4) }
         ensures err { IfErr result (IsWanting self.old self.new) }
     {
-        Ok(BigEndian::read_u32(self.take(4)?))
+        Ok(BigEndian::read_u32(self.bytes(4)?))
     }
 
     /// A number of eight bytes, the highest first.
@@ -110,7 +111,7 @@ impl<'a> Cursor<'a> {
         ensures short { IsErr result ↔ (length self.old.left < 8) }
         ensures err { IfErr result (IsWanting self.old self.new) }
     {
-        Ok(BigEndian::read_u64(self.take(8)?))
+        Ok(BigEndian::read_u64(self.bytes(8)?))
     }
 
     /// A number of eight bytes, the highest first, in two's complement.
