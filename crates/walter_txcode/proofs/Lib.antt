@@ -1,3 +1,4 @@
+pub mod Zeros
 pub mod Lengths
 pub mod Prefixes
 pub mod Failures

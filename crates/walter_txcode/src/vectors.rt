@@ -39,10 +39,12 @@ fn read_zeros(cursor: &mut Cursor, count: u8) -> Result<(), DecodeFault>
 {
     let zeros = [0; 8 * PADDED];
     let all = 8 * usize::from(count);
-    if cursor.bytes(all)? != &zeros[..all] {
-        return Err(DecodeFault::Unspelled);
+    let bytes = cursor.bytes(all)?;
+    if bytes.starts_with(&zeros[..all]) {
+        Ok(())
+    } else {
+        Err(DecodeFault::Unspelled)
     }
-    Ok(())
 }
 
 /// In the first format: the numbers of so many sites, and then zeros.
@@ -130,6 +132,7 @@ fn write_numbers(out: &mut Appender, numbers: &[u64])
 }
 
 fn write_told(out: &mut Appender, vector: &[u64])
+    requires sites { length vector.now ≤ most_sites }
     requires room { 1 + 8 * length vector.now ≤ out.old.room }
     ensures bytes { out.new.bytes ≡ out.old.bytes ++ vector_spelled Second vector.now }
     ensures room { out.new.room + (1 + 8 * length vector.now) ≡ out.old.room }
