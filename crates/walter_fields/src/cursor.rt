@@ -59,8 +59,7 @@ impl<'a> Cursor<'a> {
     }
 
     /// So many bytes.
-    pub fn bytes(&mut self, count: usize) -> Result<&'a [u8], Short>
-        ensures taken { IfOk result (λ bytes. Takes self.old self.new bytes.now) }
+    fn take(&mut self, count: usize) -> Result<&'a [u8], Short>
         ensures counted { IfOk result (λ front. length front.now ≡ count) }
         ensures number { IfOk result
             (λ front. Takes self.old self.new (number_spelled count (number_read count front.now))) }
@@ -81,7 +80,7 @@ impl<'a> Cursor<'a> {
         ensures short { IsErr result ↔ (length self.old.left < 1) }
         ensures err { IfErr result (IsWanting self.old self.new) }
     {
-        Ok(self.bytes(1)?[0])
+        Ok(self.take(1)?[0])
     }
 
     /// A number of two bytes, the highest first.
@@ -91,7 +90,7 @@ impl<'a> Cursor<'a> {
         ensures short { IsErr result ↔ (length self.old.left < 2) }
         ensures err { IfErr result (IsWanting self.old self.new) }
     {
-        Ok(BigEndian::read_u16(self.bytes(2)?))
+        Ok(BigEndian::read_u16(self.take(2)?))
     }
 
     /// A number of four bytes, the highest first.
@@ -101,7 +100,7 @@ impl<'a> Cursor<'a> {
         ensures short { IsErr result ↔ (length self.old.left < 4) }
         ensures err { IfErr result (IsWanting self.old self.new) }
     {
-        Ok(BigEndian::read_u32(self.bytes(4)?))
+        Ok(BigEndian::read_u32(self.take(4)?))
     }
 
     /// A number of eight bytes, the highest first.
@@ -111,7 +110,7 @@ impl<'a> Cursor<'a> {
         ensures short { IsErr result ↔ (length self.old.left < 8) }
         ensures err { IfErr result (IsWanting self.old self.new) }
     {
-        Ok(BigEndian::read_u64(self.bytes(8)?))
+        Ok(BigEndian::read_u64(self.take(8)?))
     }
 
     /// A number of eight bytes, the highest first, in two's complement.

@@ -154,6 +154,30 @@ pub enough_numbers : (count i : ℕ) (v left mid : List ℕ) → left ≡ number
 enough_numbers count i v left mid is long all =
     omega (arith, ap length is, length-append (numbers_spelled (take i v)) mid, length-numbers_spelled (take i v), length-take i v)
 
+-- zeros that were read, and no zero behind them
+no_zeros : (i more : ℕ) (left mid : List ℕ) → left ≡ numbers_spelled (replicate i 0) ++ mid → ((rest : List ℕ) → mid ≢ number_spelled 8 0 ++ rest)
+    → (rest : List ℕ) → left ≢ numbers_spelled (replicate (i + suc more) 0) ++ rest
+no_zeros i more left mid is none rest e =
+    let zeros : numbers_spelled (replicate (i + suc more) 0) ≡ numbers_spelled (replicate i 0) ++ numbers_spelled (0 ∷ replicate more 0) =
+    ap numbers_spelled (sym (replicate-append-replicate {A = ℕ} i (suc more) 0)) ∙ flat_map-append (number_spelled 8) (replicate i 0) (0 ∷ replicate more 0) in
+    let one : numbers_spelled (0 ∷ replicate more 0) ≡ number_spelled 8 0 ++ numbers_spelled (replicate more 0) = flat_map-cons (number_spelled 8) 0 (replicate more 0) in
+    let behind : mid ≡ numbers_spelled (0 ∷ replicate more 0) ++ rest =
+    append_cancel_left (numbers_spelled (replicate i 0)) mid (numbers_spelled (0 ∷ replicate more 0) ++ rest)
+    (sym is ∙ e ∙ ap (λ t. t ++ rest) zeros ∙ append_assoc (numbers_spelled (replicate i 0)) (numbers_spelled (0 ∷ replicate more 0)) rest) in
+    none (numbers_spelled (replicate more 0) ++ rest) (behind ∙ ap (λ t. t ++ rest) one ∙ append_assoc (number_spelled 8 0) (numbers_spelled (replicate more 0)) rest)
+
+pub no_more_zeros : (count i : ℕ) (left mid : List ℕ) → left ≡ numbers_spelled (replicate i 0) ++ mid → i < count → ((rest : List ℕ) → mid ≢ number_spelled 8 0 ++ rest)
+    → (rest : List ℕ) → left ≢ numbers_spelled (replicate count 0) ++ rest
+no_more_zeros count i left mid is more none rest e =
+    let counts : i + suc (count - (i + 1)) ≡ count = omega arith in
+    no_zeros i (count - (i + 1)) left mid is none rest (subst (λ k. left ≡ numbers_spelled (replicate k 0) ++ rest) (sym counts) e)
+
+pub no_zero_at_all : (mid : List ℕ) → length mid < 8 → (rest : List ℕ) → mid ≢ number_spelled 8 0 ++ rest
+no_zero_at_all mid few rest = too_few 8 mid (number_spelled 8 0) rest (length-number_spelled 8 0) few
+
+pub no_zero_but : (n : ℕ) (mid after : List ℕ) → n < 2 ^ 64 → n ≢ 0 → mid ≡ number_spelled 8 n ++ after → (rest : List ℕ) → mid ≢ number_spelled 8 0 ++ rest
+no_zero_but n mid after low other is rest e = other (same_number 8 n 0 after rest (omega (arith, low)) (omega arith) (sym is ∙ e)).0
+
 -- a vector of the first format that ends too early
 pub no_padded : (n : ℕ) (left : List ℕ) → n ≤ 8 → length left < 8 * n → (v rest : List ℕ) → length v ≡ n → All (λ n. n < 2 ^ 64) v → left ≢ vector_spelled First v ++ rest
 no_padded n left small few v rest long fits e =

@@ -1,4 +1,3 @@
-pub mod Zeros
 pub mod Lengths
 pub mod Prefixes
 pub mod Failures

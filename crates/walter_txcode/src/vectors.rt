@@ -32,19 +32,16 @@ fn read_numbers(cursor: &mut Cursor, count: u8) -> Result<Vts, Short>
 
 /// So many times the number 0.
 fn read_zeros(cursor: &mut Cursor, count: u8) -> Result<(), DecodeFault>
-    requires { count ≤ 8 }
     ensures ok { IfOk result (λ _. Takes cursor.old cursor.new (numbers_spelled (replicate count 0))) }
     ensures fault { IfErr result (λ fault. IfUnspelled fault
         ((rest : List ℕ) → cursor.old.left ≢ numbers_spelled (replicate count 0) ++ rest)) }
 {
-    let zeros = [0; 8 * PADDED];
-    let all = 8 * usize::from(count);
-    let bytes = cursor.bytes(all)?;
-    if bytes.starts_with(&zeros[..all]) {
-        Ok(())
-    } else {
-        Err(DecodeFault::Unspelled)
+    for _ in 0..count {
+        if cursor.u64()? != 0 {
+            return Err(DecodeFault::Unspelled);
+        }
     }
+    Ok(())
 }
 
 /// In the first format: the numbers of so many sites, and then zeros.
