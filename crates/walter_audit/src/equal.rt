@@ -38,6 +38,6 @@ pub fn is_equal(tx: &Tx, other: &Tx) -> bool
 {
     tx.tid == other.tid
         && tx.slow == other.slow
-        && tx.start.vector().as_slice() == other.start.vector().as_slice()
+        && tx.start.as_slice() == other.start.as_slice()
         && are_equal(tx.updates.as_slice(), other.updates.as_slice())
 }

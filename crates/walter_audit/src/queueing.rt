@@ -20,7 +20,7 @@ fn front_of(fronts: &[Vts], start: &Vts) -> Option<usize>
     let first = first_covering(fronts, start);
     match fronts.get(first) {
         Some(front) => {
-            if start.covers(front) {
+            if start.covers(front.as_slice()) {
                 Some(first)
             } else {
                 None

@@ -71,7 +71,7 @@ pub(crate) fn first_covering(fronts: &[Vts], start: &Vts) -> usize
     let mut high = fronts.len();
     while low < high {
         let middle = low + (high - low) / 2;
-        if fronts[middle].covers(start) {
+        if fronts[middle].covers(start.as_slice()) {
             high = middle;
         } else {
             low = middle + 1;
@@ -87,7 +87,7 @@ fn is_started(fronts: &[Vts], place: u64, start: &Vts) -> bool
 {
     let first = first_covering(fronts, start);
     match fronts.get(first) {
-        Some(front) => first as u64 <= place && start.covers(front),
+        Some(front) => first as u64 <= place && start.covers(front.as_slice()),
         None => false,
     }
 }

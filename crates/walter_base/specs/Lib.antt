@@ -9,3 +9,4 @@ pub mod Counting
 pub mod Conflicts
 pub mod Sending
 pub mod ByClient
+pub mod Snapshots

@@ -74,12 +74,13 @@ impl Vts {
         self.entries.get(usize::from(site.0)).copied().unwrap_or(0)
     }
 
-    /// Whether it is at least as great as the other one at each site.
-    pub fn covers(&self, other: &Vts) -> bool
+    /// Whether it is at least as great as these numbers at each site that they have.
+    #[tactic(auto, using(crate::specs::Padding::at_front))]
+    pub fn covers(&self, other: &[u64]) -> bool
         ensures { IsTrue result ↔ Covers self.now other.now }
     {
-        for (site, theirs) in other.as_slice().iter().enumerate() {
-            if self.get(SiteId(site as u8)) < *theirs {
+        for (site, theirs) in other.iter().enumerate() {
+            if self.entries.get(site).copied().unwrap_or(0) < *theirs {
                 return false;
             }
         }

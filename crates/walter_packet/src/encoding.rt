@@ -19,7 +19,7 @@ fn size(packet: &Packet) -> usize
     match packet {
         Packet::Propagate(_, tx) => 9 + size_in(tx, Format::Second) as usize,
         Packet::Prepare(_, _, start, objects) => {
-            25 + 8 * start.vector().as_slice().len() + 12 * objects.as_slice().len()
+            25 + 8 * start.as_slice().len() + 12 * objects.as_slice().len()
         }
         Packet::Vote(_, answer) => 9 + size_of_answer(*answer),
         Packet::Ack(_)
@@ -42,7 +42,7 @@ fn write_fields(out: &mut Appender, packet: &Packet)
         Packet::Prepare(slow, tid, start, objects) => {
             out.u64(*slow);
             write_tid(out, *tid);
-            write_vector(out, &start.vector(), Format::Second);
+            write_vector(out, start.as_slice(), Format::Second);
             write_objects(out, objects);
         }
         Packet::Vote(slow, answer) => {

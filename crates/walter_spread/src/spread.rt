@@ -75,14 +75,14 @@ impl Spread {
     }
 
     /// Whether a commit that a peer sends is taken.
-    pub fn accepts(&self, from: SiteId, seq: u64, start: &Vts) -> bool
+    pub fn accepts(&self, from: SiteId, seq: u64, start: &[u64]) -> bool
         ensures { IsTrue result ↔ IsAccepted self.now from seq start.now }
     {
         0 < seq && seq - 1 == self.got.get(from) && self.got.covers(start)
     }
 
     /// Whether the next commit of the site is to be committed here, whose snapshot is `start`.
-    pub fn enabled(&self, from: SiteId, start: &Vts) -> bool
+    pub fn enabled(&self, from: SiteId, start: &[u64]) -> bool
         ensures { IsTrue result ↔ IsEnabled self.now from start.now }
     {
         let committed = self.committed.get(from);

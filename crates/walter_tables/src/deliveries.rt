@@ -148,7 +148,7 @@ impl Tables {
         }
         let seq = committed + 1;
         let tx = self.log.commit_at(from, seq)?;
-        if self.spread.enabled(from, &tx.start.vector()) {
+        if self.spread.enabled(from, tx.start.as_slice()) {
             Some(seq)
         } else {
             None
@@ -197,7 +197,7 @@ impl Tables {
     fn has_received(&self, start: &Vts) -> bool
         ensures { (K : Knowledge) → Stands self.now K → result ≡ covers K.got start.now }
     {
-        self.spread.got().covers(start)
+        self.spread.got().covers(start.as_slice())
     }
 
     /// Whether it is known here that the snapshot doesn't see the transaction.

@@ -89,7 +89,7 @@ impl Tables {
     }
 
     /// Whether the commit is the next of the site, and what it has seen is received here.
-    fn is_next(&self, from: SiteId, seq: u64, start: &Vts) -> bool
+    fn is_next(&self, from: SiteId, seq: u64, start: &[u64]) -> bool
         ensures next { (K : Knowledge) → Stands self.now K
             → result ≡ (nat_eq seq (K.got from + 1) && covers K.got start.now) }
         ensures on { IsTrue result → seq ≡ entry_at self.now.spread.got from + 1 }
@@ -104,7 +104,7 @@ impl Tables {
         ensures on { IsTrue result → (seq ≡ entry_at self.now.spread.got from + 1) × (tx.now.tid.site ≡ from) }
     {
         tx.tid.site == from
-            && self.is_next(from, seq, &tx.start.vector())
+            && self.is_next(from, seq, tx.start.as_slice())
             && are_declared(&self.catalog, tx.updates.as_slice())
     }
 
@@ -144,7 +144,7 @@ impl Tables {
             → Covers (values_of self.now).spread.committed tx.start) }
     {
         match self.log.commit_at(from, seq) {
-            Some(tx) => self.spread.committed().covers(&tx.start.vector()),
+            Some(tx) => self.spread.committed().covers(tx.start.as_slice()),
             None => true,
         }
     }

@@ -39,7 +39,7 @@ pub fn is_same(tx: &Tx, other: &Tx) -> bool
 {
     tx.tid == other.tid
         && tx.slow == other.slow
-        && tx.start.vector().covers(&other.start.vector())
-        && other.start.vector().covers(&tx.start.vector())
+        && tx.start.vector().covers(other.start.as_slice())
+        && other.start.vector().covers(tx.start.as_slice())
         && same_updates(tx.updates.as_slice(), other.updates.as_slice())
 }

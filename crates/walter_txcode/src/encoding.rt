@@ -7,12 +7,12 @@ ghost use Rattle.walter_txcode.specs.Spelling.{head_spelled, spelling, numbered_
 use crate::updates::write_updates;
 use crate::vectors::write_vector;
 use std::alloc::Global;
-use walter_base::{Bytes, Format, Mem, NoMemory, Tid, Tx, Vts};
+use walter_base::{Bytes, Format, Mem, NoMemory, Tid, Tx};
 use walter_fields::Appender;
 use walter_names::write_tid;
 
 /// What stands before the updates.
-fn write_head(out: &mut Appender, tid: Tid, slow: u64, start: &Vts, format: Format)
+fn write_head(out: &mut Appender, tid: Tid, slow: u64, start: &[u64], format: Format)
     requires sites { length start.now ≤ most_in format }
     requires room { 21 + size_of_vector format start.now ≤ out.old.room }
     ensures bytes { out.new.bytes ≡ out.old.bytes ++ head_spelled format tid slow start.now }
@@ -35,7 +35,7 @@ pub fn append(out: &mut Appender, tx: &Tx, format: Format)
     ensures room { out.new.room + size_in format tx.now ≡ out.old.room }
     ensures ranges { IsInRange tx.now }
 {
-    write_head(out, tx.tid, tx.slow, &tx.start.vector(), format);
+    write_head(out, tx.tid, tx.slow, tx.start.as_slice(), format);
     write_updates(out, tx.updates.as_slice());
 }
 
@@ -60,7 +60,7 @@ pub fn size_in(tx: &Tx, format: Format) -> u64
 {
     match format {
         Format::First => tx.size(),
-        Format::Second => tx.size() - 63 + 8 * tx.start.vector().as_slice().len() as u64,
+        Format::Second => tx.size() - 63 + 8 * tx.start.as_slice().len() as u64,
     }
 }
 

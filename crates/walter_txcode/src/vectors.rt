@@ -95,19 +95,17 @@ pub fn read_vector(cursor: &mut Cursor, sites: u8, format: Format) -> Result<Vts
 }
 
 /// The numbers of all sites that the first format has a place for.
-fn numbers_of(vector: &Vts) -> [u64; PADDED]
+fn numbers_of(vector: &[u64]) -> [u64; PADDED]
     requires sites { length vector.now ≤ 8 }
     ensures all { result ≡ vector.now ++ replicate (8 - length vector.now) 0 }
     ensures ranges { All (λ number. number < 2 ^ 64) vector.now }
 {
     let mut numbers = [0; PADDED];
-    for site in 0..PADDED {
-        numbers[site] = vector.get(SiteId(site as u8));
-    }
+    numbers[..vector.len()].copy_from_slice(vector);
     numbers
 }
 
-fn write_padded(out: &mut Appender, vector: &Vts)
+fn write_padded(out: &mut Appender, vector: &[u64])
     requires sites { length vector.now ≤ 8 }
     requires room { 64 ≤ out.old.room }
     ensures bytes { out.new.bytes ≡ out.old.bytes ++ vector_spelled First vector.now }
@@ -130,19 +128,19 @@ fn write_numbers(out: &mut Appender, numbers: &[u64])
     }
 }
 
-fn write_told(out: &mut Appender, vector: &Vts)
+fn write_told(out: &mut Appender, vector: &[u64])
+    requires sites { length vector.now ≤ most_sites }
     requires room { 1 + 8 * length vector.now ≤ out.old.room }
     ensures bytes { out.new.bytes ≡ out.old.bytes ++ vector_spelled Second vector.now }
     ensures room { out.new.room + (1 + 8 * length vector.now) ≡ out.old.room }
     ensures ranges { All (λ number. number < 2 ^ 64) vector.now }
 {
-    let numbers = vector.as_slice();
-    out.u8(numbers.len() as u8);
-    write_numbers(out, numbers);
+    out.u8(vector.len() as u8);
+    write_numbers(out, vector);
 }
 
 /// Writes the vector's spelling in the format behind what was written.
-pub fn write_vector(out: &mut Appender, vector: &Vts, format: Format)
+pub fn write_vector(out: &mut Appender, vector: &[u64], format: Format)
     requires sites { length vector.now ≤ most_in format }
     requires room { size_of_vector format vector.now ≤ out.old.room }
     ensures bytes { out.new.bytes ≡ out.old.bytes ++ vector_spelled format vector.now }
