@@ -1,5 +1,6 @@
 pub mod Ages
 pub mod Nodes
+pub mod DiskCalls
 pub mod Wholes
 pub mod Openings
 pub mod Lines

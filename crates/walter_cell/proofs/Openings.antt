@@ -20,9 +20,9 @@ use Rattle.walter_engine.specs.declared.answers.BeginFault.{BeginFault}
 use Rattle.walter_machine.specs.Comings.{IsSized, is_faulty}
 use Rattle.walter_packet.specs.Spelling.{HasPacketSpelling}
 use Rattle.walter_rules.specs.Sending.{Send}
-use Rattle.walter_cell.specs.Builds.{Begins, OfBuilt, begun_by}
+use Rattle.walter_cell.specs.Builds.{Begins, OfBuilt, begun_by, calls_once_begun}
 use Rattle.walter_cell.specs.Entries.{HaveRisingStamps}
-use Rattle.walter_cell.specs.Nodes.{NodeParts, IsNode, IsKnownNode, is_told}
+use Rattle.walter_cell.specs.Nodes.{NodeParts, IsNode, IsKnownNode, calls_under, is_told}
 
 one_of_all : {X : Type 0} (P : X → Type 0) (x : X) → P x → All P (x ∷ [])
 one_of_all P x holds = All-push P [] x (All-nil P) holds
@@ -125,6 +125,14 @@ told_here g old None disk is there both = absurd cc
 told_here g old (Some now) disk is there both =
     from_found old disk (λ a. is_some (g.known now).reads ≡ is_some (g.known a).reads) is both
 
+-- how many calls of the disk were made, told of the one that the site was given
+pub calls_here : {D : Type 0} (g : Ghosts D) (shape : Shape) (areas : ℕ) (old new : Option D) (disk : D) → old ≡ Some disk
+    → is_some new ≡ true → IfSome old (λ x. IfSome new (λ y. g.device_calls y ≡ calls_once_begun g shape areas x))
+    → calls_under g new ≡ calls_once_begun g shape areas disk
+calls_here g shape areas old None disk is there both = absurd cc
+calls_here g shape areas old (Some now) disk is there both =
+    from_found old disk (λ x. g.device_calls now ≡ calls_once_begun g shape areas x) is both
+
 -- what a first restart comes to, told of the disk that the site was given
 module _ {D N : Type 0} (g : Ghosts D)
     (counts_now : (disk : D) (t : ℕ) (image : List ℕ) → t ≤ g.moment disk → g.may_leave disk image → g.left_since disk t image)
@@ -137,9 +145,10 @@ module _ {D N : Type 0} (g : Ghosts D)
       → ((bytes : List ℕ) → IfSome old (HasOnly g bytes)
       → IfSome old (λ x. IfSome new (λ y. LeavesOnly g.moment g.left_since x y (MayHaveBegun shape areas bytes))))
       → IfSome old (λ x. IfSome new (λ y. IsFaultOfBegin answer (g.known x).faults (g.known y).faults))
+      → IfSome old (λ x. IfSome new (λ y. g.device_calls y ≤ calls_once_begun g shape areas x))
       → IfSome old (λ x. IfSome new (λ y. (g.known y).arms ≡ (g.known x).arms))
       → Begins g disk_of shape areas disk r
-  begins_by begins any_moment faults arms = record {
+  begins_by begins any_moment faults calls arms = record {
     begins = λ bytes only.
         subst (λ (a : Result (Unit {0}) BeginFault). IsBegun shape bytes a) (sym answered) (begins bytes (to_found old disk (HasOnly g bytes) old_is only));
     leaves = λ bytes only.
@@ -147,5 +156,6 @@ module _ {D N : Type 0} (g : Ghosts D)
     faults = now_of _
         (subst (λ (a : Result (Unit {0}) BeginFault). IfSome new (λ y. IsFaultOfBegin a (g.known disk).faults (g.known y).faults)) (sym answered)
         (of_given (λ x y. IsFaultOfBegin answer (g.known x).faults (g.known y).faults) faults));
+    calls = now_of _ (of_given (λ x y. g.device_calls y ≤ calls_once_begun g shape areas x) calls);
     arms = now_of _ (of_given (λ x y. (g.known y).arms ≡ (g.known x).arms) arms);
   }

@@ -19,7 +19,7 @@ use Rattle.walter_trail.specs.Calls.{call_by, calls_of}
 use Rattle.walter_cell.specs.Cells.{CellValue, IsCell, Keeps, Proceeds}
 use Rattle.walter_cell.specs.Entries.{IsPlain, IsSpent, Grows}
 use Rattle.walter_cell.specs.Lines.{LineValue, is_here, IsLineAt}
-use Rattle.walter_cell.specs.Nodes.{NodeValue, IsSameButRoom, IsSameButDisk, IsSameButLanes, KeepsNode, Takes, entry_by, clock_in, places_in, arms_under, is_told}
+use Rattle.walter_cell.specs.Nodes.{NodeValue, IsSameButRoom, IsSameButDisk, IsSameButLanes, KeepsNode, Takes, entry_by, clock_in, places_in, arms_under, calls_under, is_told}
 use Rattle.walter_cell.specs.Written.{AreWritten, AreWrittenAt, framed_for, replies_to}
 
 -- ---- events that bring nothing
@@ -89,6 +89,7 @@ module _ {D : Type 0} (g : Ghosts D) where
         };
         same_mets = t.same_mets;
         arms = t.arms;
+        calls = t.calls;
         drops = t.drops;
       }
 
@@ -150,6 +151,7 @@ module _ {D : Type 0} (old : CellValue D) (node : NodeValue D)
       ins = refl;
       same_mets = takes.same_mets;
       arms = takes.arms;
+      calls = takes.calls;
       drops = takes.drops;
     }
 
@@ -238,6 +240,7 @@ module _ {D : Type 0} (g : Ghosts D) (old : CellValue D) (node : NodeValue D)
     ins = refl;
     same_mets = ap (λ (n : NodeValue D). mets n.outs) same.same;
     arms = ap (λ (n : NodeValue D). arms_under g n.disk) same.same;
+    calls = λ told. inl (ap (λ (n : NodeValue D). n.trail) same.same, ap (λ (n : NodeValue D). calls_under g n.disk) same.same);
     drops = λ told. inl (ap (λ (n : NodeValue D). n.trail) same.same);
   }
 

@@ -24,7 +24,7 @@ use Rattle.walter_cell.specs.declared.answers.Serve.{Serve}
 use Rattle.walter_cell.specs.declared.answers.Serve.TheVariants as serve
 use Rattle.walter_cell.specs.Entries.{HasPlace}
 use Rattle.walter_cell.specs.Lines.{Sent, LineValue, HasFault, HasFaultAt, is_there, is_here, IsLine, IsLineAt}
-use Rattle.walter_cell.specs.Nodes.{NodeValue, KeepsNode, IsSameButRoom, Takes, MayDrop, clock_in, arms_under, is_told as tells}
+use Rattle.walter_cell.specs.Nodes.{NodeValue, KeepsNode, IsSameButRoom, Takes, MayCall, MayDrop, clock_in, arms_under, calls_under, capacity_of, is_told as tells}
 use Rattle.walter_cell.specs.Turns.{BringsCall, LosesReply, ServesTo, ServesAt, AreSameBut}
 use Rattle.walter_cell.specs.Written.{AreWritten, AreWrittenAt, IsCutOff, framed_reply, replies_to}
 use Rattle.walter_lane.specs.Lanes.{Receiving}
@@ -269,9 +269,11 @@ module _ {D : Type 0} (g : Ghosts D) (old new : CellValue D) (number : ℕ) (bef
 
     proceeds_by : KeepsNode g old.node new.node → new.ins ≡ old.ins → mets new.node.outs ≡ mets old.node.outs
         → arms_under g new.node.disk ≡ arms_under g old.node.disk
+        → (tells g old.node.disk ≡ true → MayCall (capacity_of old.node.layout) old.node.catalog old.node.site old.node.trail new.node.trail
+        (calls_under g old.node.disk) (calls_under g new.node.disk))
         → (tells g old.node.disk ≡ true → MayDrop old.node.catalog old.node.site (met_to old.node.outs) old.node.trail new.node.trail)
         → Proceeds g old new
-    proceeds_by node ins met arms drops = record {
+    proceeds_by node ins met arms calls drops = record {
       keeps = record {
         node = node;
         ins = ap in_rings ins;
@@ -283,6 +285,7 @@ module _ {D : Type 0} (g : Ghosts D) (old new : CellValue D) (number : ℕ) (bef
       ins = ins;
       same_mets = met;
       arms = arms;
+      calls = calls;
       drops = drops;
     }
 
@@ -290,11 +293,13 @@ module _ {D : Type 0} (g : Ghosts D) (old new : CellValue D) (number : ℕ) (bef
     proceeds_idle : IsSameButRoom old.node new.node → new.ins ≡ old.ins → Proceeds g old new
     proceeds_idle same ins =
         proceeds_by (keeps_room g old.node new.node same) ins (ap (λ (n : NodeValue D). mets n.outs) same.same)
-        (ap (λ (n : NodeValue D). arms_under g n.disk) same.same) (λ told. inl (ap (λ (n : NodeValue D). n.trail) same.same))
+        (ap (λ (n : NodeValue D). arms_under g n.disk) same.same)
+        (λ told. inl (ap (λ (n : NodeValue D). n.trail) same.same, ap (λ (n : NodeValue D). calls_under g n.disk) same.same))
+        (λ told. inl (ap (λ (n : NodeValue D). n.trail) same.same))
 
     -- a call came
     proceeds_called : (stamp : ℕ) (event : Event) → Takes g stamp event old.node new.node → new.ins ≡ old.ins → Proceeds g old new
-    proceeds_called stamp event takes ins = proceeds_by takes.keeps ins takes.same_mets takes.arms takes.drops
+    proceeds_called stamp event takes ins = proceeds_by takes.keeps ins takes.same_mets takes.arms takes.calls takes.drops
 
 -- a client's connection was read at its place and is another now, and so may the site be
 module _ {D : Type 0} (g : Ghosts D) (told old : CellValue D) (is_told : old ≡ told) (node : NodeValue D) (number : ℕ)

@@ -3,7 +3,7 @@ use Rattle.std.proofs.Common.{◌≡◌, ◌<◌, ◌+◌, ◌^◌, ◌++◌, �
 use Rattle.std.specs.Prelude.{IfSome, IsSome, OnOk, OnErr, Result, Ok, Err, ◌≤◌}
 use Rattle.walter_base.specs.declared.catalog.Catalog.{Catalog}
 use Rattle.walter_base.specs.declared.names.SiteId.{SiteId}
-use Rattle.walter_disk.specs.Disks.{DiskState}
+use Rattle.walter_disk.specs.Disks.{DiskState, armed_at}
 use Rattle.walter_disk.specs.declared.disk.Disk.{Ghosts}
 use Rattle.walter_engine.proofs.Resting.{leaves_bodies, may_have}
 use Rattle.walter_engine.specs.Contents.{HasBodies, MayHaveRecords, spelled}
@@ -19,7 +19,7 @@ use Rattle.walter_rules.specs.Layouts.{Layout, header_of}
 use Rattle.walter_rules.specs.Standing.{Standing}
 use Rattle.walter_rules.specs.Trails.{standing}
 use Rattle.walter_site.specs.Members.{IsShortOutcome}
-use Rattle.walter_cell.specs.Nodes.{NodeParts, NodeValue, IsNode, IsKnownNode, IsSameButDisk, IsWhole, IsSound, is_told, arms_under, seen, entry_by, MayDrop, Takes}
+use Rattle.walter_cell.specs.Nodes.{NodeParts, NodeValue, IsNode, IsKnownNode, IsSameButDisk, IsWhole, IsSound, is_told, arms_under, calls_under, capacity_of, seen, entry_by, MayCall, MayDrop, Takes}
 use Rattle.walter_cell.proofs.Nodes.{has_disk}
 
 -- what holds of both disks, holds of them in other words
@@ -46,13 +46,13 @@ module _ {D : Type 0} (g : Ghosts D) where
   arms_both (Some x) (Some y) here there both = both
 
   -- what an arm leaves as it was, whether the disk was armed or not
-  pub armed_or_not : {X E : Type 0} (r : Result X E) (F : Option (List (ℕ × ℕ)) → Option (List (ℕ × ℕ))) (x y : Option D)
-      → OnOk r (IfSome x (λ a. IfSome y (λ b. g.known b ≡ record (g.known a) { arms = F (g.known a).arms })))
+  pub armed_or_not : {X E : Type 0} (r : Result X E) (nth choice : ℕ) (x y : Option D)
+      → OnOk r (IfSome x (λ a. IfSome y (λ b. g.known b ≡ armed_at (g.device_calls a) nth choice (g.known a))))
       → OnErr r (IfSome x (λ a. IfSome y (λ b. g.known b ≡ g.known a)))
       → IfSome x (λ a. IfSome y (λ b. ((g.known b).faults ≡ (g.known a).faults) × (is_some (g.known b).reads ≡ is_some (g.known a).reads)))
-  armed_or_not (Ok done) F x y armed same =
+  armed_or_not (Ok done) nth choice x y armed same =
       of_both _ _ (λ a b is. (ap (λ (d : DiskState). d.faults) is, ap (λ (d : DiskState). is_some d.reads) is)) x y armed
-  armed_or_not (Err failed) F x y armed same =
+  armed_or_not (Err failed) nth choice x y armed same =
       of_both _ _ (λ a b is. (ap (λ (d : DiskState). d.faults) is, ap (λ (d : DiskState). is_some d.reads) is)) x y same
 
   faults_kept : (n : ℕ) (x y : Option D) → is_some x ≡ true → IfSome x (λ a. IfSome y (λ b. (g.known b).faults ≡ (g.known a).faults))
@@ -169,9 +169,11 @@ module _ {D : Type 0} {g : Ghosts D} where
       → IfSome (disk_in old.engine) (λ a. IfSome (disk_in new.engine) (λ b. is_some (g.known b).reads ≡ is_some (g.known a).reads))
       → IfSome (disk_in old.engine) (λ a. IfSome (disk_in new.engine) (λ b. (g.known b).arms ≡ (g.known a).arms))
       → out_rings new.outs ≡ out_rings old.outs → mets new.outs ≡ mets old.outs
+      → (is_told g (disk_in old.engine) ≡ true → MayCall (capacity_of (layout_in old.engine)) (catalog_in old.engine) (site_in old.engine) old.trail new.trail
+      (calls_under g (disk_in old.engine)) (calls_under g (disk_in new.engine)))
       → (is_told g (disk_in old.engine) ≡ true → MayDrop (catalog_in old.engine) (site_in old.engine) (met_to old.outs) old.trail new.trail)
       → Takes g stamp event (seen before old) (seen after new)
-  takes_of old new before after stamp event came grown places short same tells arms rings ms drops = record {
+  takes_of old new before after stamp event came grown places short same tells arms rings ms calls drops = record {
     came = came;
     trail = grown;
     short = short;
@@ -185,5 +187,6 @@ module _ {D : Type 0} {g : Ghosts D} where
     };
     same_mets = ms;
     arms = arms_both g (disk_in old.engine) (disk_in new.engine) (has_disk old.engine) (has_disk new.engine) arms;
+    calls = calls;
     drops = drops;
   }

@@ -1,14 +1,19 @@
 -- What a site does that is pumped, in other words.
-use Rattle.std.proofs.Common.{◌≡◌, ◌≢◌, ◌∷◌, ◌+◌, ℕ, suc, arith, List, [], drop, slice_get, refl, ap, ◌∙◌, Option, Some, None}
+use Rattle.std.proofs.Common.{◌≡◌, ◌≢◌, ◌<◌, ◌≤◌, ◌∷◌, ◌+◌, ℕ, zero, suc, arith, List, [], drop, length, slice_get, refl, ap, ◌∙◌, Option, Some, None}
+use Rattle.std.specs.Prelude.{IsSome}
 use Rattle.walter_base.specs.declared.names.SiteId.{SiteId}
 use Rattle.std.proofs.lemmas.Bool.{eq-eqb, ne_eqb}
-use Rattle.walter_link.specs.Pumps.{PumpValue, HasTaken, take_below, take_other, take_up_to}
+use Rattle.walter_lane.specs.Lanes.{Receiving}
+use Rattle.walter_link.specs.Pumps.{PumpValue, HasTaken, take_below, take_other, take_up_to, taken_from}
 use Rattle.walter_link.specs.declared.pump.Waiting.{Waiting}
+use Rattle.walter_machine.specs.Posts.{of_number}
+use Rattle.walter_outbox.specs.Lanes.{arrived_from}
 use Rattle.walter_rules.specs.declared.event.Event.{Event}
 use Rattle.walter_cell.specs.declared.answers.Acted.{Acted}
 use Rattle.walter_cell.specs.declared.answers.Moved.{Moved}
 use Rattle.walter_cell.specs.declared.answers.Pumped.{Pumped}
-use Rattle.walter_cell.specs.Pumps.{Works, hands, advances, ticks, idle}
+use Rattle.walter_cell.specs.Cells.{arrival}
+use Rattle.walter_cell.specs.Pumps.{Works, hands, advances, ticks, idle, counts_in}
 
 -- the first of a list, and the rest
 pub first_front : {X : Type 0} (xs : List X) (x : X) → slice_get xs 0 ≡ Some x → xs ≡ x ∷ drop 1 xs
@@ -18,6 +23,19 @@ first_front (y ∷ ys) x first = let same : Some y ≡ Some x = first in cc
 pub no_front : {X : Type 0} (xs : List X) → slice_get xs 0 ≡ None → xs ≡ []
 no_front [] none = refl
 no_front (y ∷ ys) none = let same : Some y ≡ None = none in absurd cc
+
+-- a packet that was taken has arrived, where no more was taken than that
+at_number : {T : Type 0} (posts : List T) (number : ℕ) → 0 < number → number ≤ length posts → IsSome (of_number number posts)
+at_number posts zero first most = absurd (omega (arith, first))
+at_number [] (suc before) first most = absurd (omega (arith, most))
+at_number (post ∷ posts) (suc zero) first most = refl
+at_number (post ∷ posts) (suc (suc before)) first most =
+    at_number posts (suc before) (omega arith) (omega (arith, most))
+
+pub there_taken : (ins : List Receiving) (pump : PumpValue) (first : Waiting) → HasTaken pump first
+    → taken_from pump first.from.0 ≤ counts_in ins first.from.0 → IsSome (arrival ins first.from first.number)
+there_taken ins pump first taken most =
+    let below = taken.taken in at_number (arrived_from ins first.from.0) first.number taken.first (omega (arith, below, most))
 
 -- what is said of deliveries, of events, of rest and of the least peer may be said otherwise
 pub works_so : (Delivers Delivers' : SiteId → ℕ → Moved → Type 0) (Happens Happens' : Event → Acted → Type 0) (rests rests' : Type 0)

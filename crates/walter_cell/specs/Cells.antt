@@ -27,7 +27,7 @@ use Rattle.walter_cell.specs.declared.answers.Serve.TheVariants as serve
 use Rattle.walter_cell.specs.Entries.{IsSpent, HasPlace, Grows}
 use Rattle.walter_outbox.specs.Lanes.{arrived_from, put_to, in_rings, mets, met_to, AreNext}
 use Rattle.walter_cell.specs.Builds.{HasOpened}
-use Rattle.walter_cell.specs.Nodes.{NodeValue, KeepsNode, IsSameButLanes, MayDrop, arms_under, is_told}
+use Rattle.walter_cell.specs.Nodes.{NodeValue, KeepsNode, IsSameButLanes, MayCall, MayDrop, arms_under, calls_under, capacity_of, is_told}
 use Rattle.walter_cell.specs.Lines.{LineValue, is_here, IsLineAt}
 use Rattle.walter_cell.specs.Written.{AreWrittenAt}
 
@@ -65,13 +65,16 @@ module _ {D : Type 0} where
       pub answered : (client : ℕ) (first : List ℕ) → AreWrittenAt first client old.node.trail old.lines
           → AreWrittenAt first client new.node.trail new.lines
 
-    -- What a call keeps that may let an event come: nothing arrives, nothing is armed, and only what finds its lane full is
-    -- dropped, where the disk tells what it holds.
+    -- What a call keeps that may let an event come: nothing arrives, and nothing is armed. Where the disk tells what it
+    -- holds, the calls of it are the event's, and only what finds its lane full is dropped.
     pub record Proceeds (old new : CellValue D) : Type 0 where
       pub keeps : Keeps old new
       pub ins : new.ins ≡ old.ins
       pub same_mets : mets new.node.outs ≡ mets old.node.outs
       pub arms : arms_under g new.node.disk ≡ arms_under g old.node.disk
+      pub calls : is_told g old.node.disk ≡ true
+          → MayCall (capacity_of old.node.layout) old.node.catalog old.node.site old.node.trail new.node.trail
+          (calls_under g old.node.disk) (calls_under g new.node.disk)
       pub drops : is_told g old.node.disk ≡ true
           → MayDrop old.node.catalog old.node.site (met_to old.node.outs) old.node.trail new.node.trail
 

@@ -1,19 +1,23 @@
 -- What contracts see of a site with its trail and its lanes, and what holds of it between two events.
-use Rattle.std.specs.Prelude.{◌≡◌, ◌<◌, ◌≤◌, ◌⊎◌, ◌+◌, ◌^◌, ℕ, Bool, true, false, List, [], ◌∷◌, ◌++◌, Option, Some, None, IfSome, All}
+use Rattle.std.specs.Prelude.{◌≡◌, ◌≢◌, ◌<◌, ◌≤◌, ◌⊎◌, ◌+◌, ◌-◌, ◌/◌, ◌^◌, ℕ, Bool, true, false, List, [], ◌∷◌, ◌++◌, Option, Some, None, IfSome, All}
 use Rattle.std.specs.Prelude.{length, reverse, slice_get, count_by, is_some}
 use Rattle.walter_base.specs.declared.catalog.Catalog.{Catalog}
 use Rattle.walter_base.specs.declared.format.Format.TheVariants.{First}
 use Rattle.walter_base.specs.declared.names.SiteId.{SiteId}
+use Rattle.walter_disk.specs.Disks.{Arming, and_arming}
 use Rattle.walter_disk.specs.declared.disk.Disk.{Ghosts}
 use Rattle.walter_engine.specs.Contents.{MayHaveRecords}
+use Rattle.walter_engine.specs.Effects.{AreCalls, AreCallsOfRestart}
 use Rattle.walter_engine.specs.Engines.{catalog_in, site_in, layout_in, disk_in, Stands}
 use Rattle.walter_engine.specs.declared.engine.Engine.{Engine}
+use Rattle.walter_journal.specs.Zeros.{writes_of}
 use Rattle.walter_lane.specs.Lanes.{Sending}
 use Rattle.walter_machine.specs.Comings.{IsSized, is_faulty}
 use Rattle.walter_rules.specs.declared.entry.Came.{Came}
 use Rattle.walter_rules.specs.declared.entry.Entry.{Entry}
 use Rattle.walter_rules.specs.declared.event.Event.{Event}
-use Rattle.walter_rules.specs.Layouts.{Layout}
+use Rattle.walter_rules.specs.declared.event.Event.TheVariants.{Restart}
+use Rattle.walter_rules.specs.Layouts.{Layout, one_area, two_areas}
 use Rattle.walter_rules.specs.Rule.{rule}
 use Rattle.walter_rules.specs.Standing.{Standing, settled}
 use Rattle.walter_rules.specs.Trails.{standing, clock, opening, IsRightTrail}
@@ -80,6 +84,32 @@ abbrev pub MayDrop : Catalog → SiteId → (ℕ → ℕ) → List Entry → Lis
 MayDrop catalog i met old new =
     (new ≡ old) ⊎ ((e : Entry) × (new ≡ old ++ e ∷ []) × DropsWhereFull catalog i met (reverse old) e)
 
+-- ---- how many calls of its disk an event makes
+
+-- the most bytes that the disk has under a journal which is laid out so
+abbrev pub capacity_of : Layout → ℕ
+capacity_of (one_area capacity header) = capacity
+capacity_of (two_areas capacity sites header) = capacity
+
+-- Those of a restart of a site that was down: a read of the journal; those that pack it where it is of two areas, four
+-- behind the writes of zeros where the disk ends in front of the area; and those of the record.
+pub record AreCallsToRaise (capacity : ℕ) (came : Came) (old new : ℕ) : Type 0 where
+  pub pack : ℕ
+  pub packs : (pack ≡ 0) ⊎ ((size : ℕ) × (pack ≡ writes_of (9 + (capacity - 9) / 2 - size) + 4))
+  pub calls : AreCallsOfRestart came (1 + pack) old new
+
+-- those of an event at a site that stood so: but for such a restart, those of the record
+pub record AreCallsAt (capacity : ℕ) (S : Standing) (event : Event) (came : Came) (old new : ℕ) : Type 0 where
+  pub to_restart : S.up ≡ false → event ≡ Restart → AreCallsToRaise capacity came old new
+  pub to_write : (S.up ≡ false → event ≢ Restart) → AreCalls came old new
+
+-- those of the entry that comes to a trail, if one does; else none
+abbrev pub MayCall : ℕ → Catalog → SiteId → (old new : List Entry) → (before after : ℕ) → Type 0
+MayCall capacity catalog i old new before after =
+    ((new ≡ old) × (after ≡ before))
+    ⊎ ((e : Entry) × (new ≡ old ++ e ∷ [])
+    × AreCallsAt capacity (standing catalog i (reverse old)) e.event e.came before after)
+
 module _ {D : Type 0} (g : Ghosts D) where
   -- whether a disk tells what it holds
   abbrev pub is_told : Option D → Bool
@@ -87,9 +117,19 @@ module _ {D : Type 0} (g : Ghosts D) where
   is_told (Some disk) = is_some (g.known disk).reads
 
   -- the arms of a disk, where it tells them
-  abbrev pub arms_under : Option D → Option (List (ℕ × ℕ))
+  abbrev pub arms_under : Option D → Option (List Arming)
   arms_under None = None
   arms_under (Some disk) = (g.known disk).arms
+
+  -- how many calls of it were made that an arm counts
+  abbrev pub calls_under : Option D → ℕ
+  calls_under None = 0
+  calls_under (Some disk) = g.device_calls disk
+
+  -- the arms of a disk that is armed once more, where it tells them
+  abbrev pub armed_under : (nth choice : ℕ) → Option D → Option (List Arming)
+  armed_under nth choice disk =
+      and_arming (record { at = calls_under disk; nth = nth; choice = choice }) (arms_under disk)
 
   -- the records of a site that stands as the trail says are all that a crash may leave of the disk
   abbrev pub LeavesRecords : Catalog → Layout → SiteId → List Entry → D → Type 0
@@ -121,8 +161,9 @@ module _ {D : Type 0} (g : Ghosts D) where
     pub rings : out_rings new.outs ≡ out_rings old.outs
     pub places : places_in old ≤ places_in new
 
-  -- an event came to it: its entry stands last in the trail. Nothing else arms the disk or makes lanes' ends meet; of what
-  -- is to be put out only what finds its lane full is dropped, where the disk tells what it holds.
+  -- an event came to it: its entry stands last in the trail. It neither arms the disk nor makes lanes' ends meet. Where the
+  -- disk tells what it holds, so many calls of it were made, and of what is to be put out only what finds its lane full is
+  -- dropped.
   pub record Takes (stamp : ℕ) (event : Event) (old new : NodeValue D) : Type 0 where
     pub came : Came
     pub trail : new.trail ≡ old.trail ++ entry_by stamp event came ∷ []
@@ -130,6 +171,8 @@ module _ {D : Type 0} (g : Ghosts D) where
     pub keeps : KeepsNode old new
     pub same_mets : mets new.outs ≡ mets old.outs
     pub arms : arms_under new.disk ≡ arms_under old.disk
+    pub calls : is_told old.disk ≡ true
+        → MayCall (capacity_of old.layout) old.catalog old.site old.trail new.trail (calls_under old.disk) (calls_under new.disk)
     pub drops : is_told old.disk ≡ true → MayDrop old.catalog old.site (met_to old.outs) old.trail new.trail
 
 -- ---- a site with its trail and its lanes, by its parts

@@ -1,5 +1,5 @@
 -- What a site does that is pumped (docs/FORMATS.md, "The link").
-use Rattle.std.specs.Prelude.{◌≡◌, ◌<◌, ◌-◌, ℕ, true, List, [], ◌∷◌, length, Option, Some, None}
+use Rattle.std.specs.Prelude.{◌≡◌, ◌<◌, ◌-◌, ℕ, true, List, [], ◌∷◌, length, Option, Some, None, IsSome}
 use Rattle.walter_base.specs.declared.names.SiteId.{SiteId}
 use Rattle.walter_disk.specs.declared.disk.Disk.{Ghosts}
 use Rattle.walter_lane.specs.Lanes.{Receiving}
@@ -65,6 +65,12 @@ pub data Works (Delivers : SiteId → ℕ → Moved → Type 0) (Happens : Event
   idle : pump.waiting ≡ [] → IsLeast None → pump.ticks ≡ 0 → rests → after ≡ pump → answer ≡ pumped.Idle
       → Works Delivers Happens rests IsLeast pump after answer
 
+-- a packet that has arrived is delivered, and comes to this
+pub record HandsAt {D : Type 0} (old new : CellValue D) (from : SiteId) (number : ℕ) (moved : Moved) : Type 0 where
+  pub there : IsSome (arrival old.ins from number)
+  pub moves : MovesTo from number (arrival old.ins from number) (length old.ins) (clock_in old.node)
+      old.node.trail new.node.trail moved
+
 module _ {D : Type 0} (g : Ghosts D) where
   -- of a site whose disk tells what it holds, and that is up, this is the least peer whose next commit can be committed
   abbrev pub IsLeastAt : CellValue D → Option SiteId → Type 0
@@ -74,8 +80,7 @@ module _ {D : Type 0} (g : Ghosts D) where
   -- what is done at a cell behind which all is taken that has arrived
   abbrev pub WorksAt : (old new : CellValue D) → (pump after : PumpValue) → Pumped → Type 0
   WorksAt old new pump after answer =
-      Works (λ from number moved. MovesTo from number (arrival old.ins from number) (length old.ins) (clock_in old.node)
-      old.node.trail new.node.trail moved)
+      Works (HandsAt old new)
       (λ happens acted. Acts happens (clock_in old.node) old.node.trail new.node.trail acted)
       (new.node.trail ≡ old.node.trail) (IsLeastAt old) pump after answer
 

@@ -1,5 +1,5 @@
 //! A cell: a site over its disk, with its trail, its lanes and the connections of its clients.
-ghost use Rattle.std.specs.Prelude.{◌≡◌, ◌≢◌, ◌<◌, ◌≤◌, ◌++◌, ◌∷◌, ◌+◌, ◌↔◌, [], ℕ, List, Option, true};
+ghost use Rattle.std.specs.Prelude.{◌≡◌, ◌≢◌, ◌<◌, ◌≤◌, ◌+◌, ◌↔◌, [], ℕ, List, Option, true};
 ghost use Rattle.std.specs.Prelude.{is_ok, IsOk, if◌then◌else◌, length, map, max, option_map, Some, OnErr, OnOk, IfOk, IsTrue};
 ghost use mathlib.Core.List.{IsPrefix};
 ghost use Rattle.walter_base.specs.Sizes.{most_in};
@@ -63,7 +63,7 @@ impl<D: Disk + Drop, S: Source + Drop, K: Sink + Drop> Cell<D, S, K> {
     ghost use Rattle.walter_cell.specs.Cells.{CellValue, IsCell, Keeps, Proceeds, HasBegun, HaveMet, HasSameTrail};
     ghost use Rattle.walter_cell.specs.Cells.{TurnsTo, Acts, MovesTo};
     ghost use Rattle.walter_cell.specs.Turns.{ServesAt, AreSameBut};
-    ghost use Rattle.walter_cell.specs.Nodes.{arms_under, is_told, places_in, standing_of};
+    ghost use Rattle.walter_cell.specs.Nodes.{arms_under, armed_under, calls_under, is_told, places_in, standing_of};
     ghost use Rattle.walter_rules.specs.Deliveries.{IsLeastEnabled};
     ghost use Rattle.walter_rules.specs.Layouts.{header_of};
 
@@ -127,9 +127,10 @@ impl<D: Disk + Drop, S: Source + Drop, K: Sink + Drop> Cell<D, S, K> {
     pub fn arm(&mut self, nth: u64, choice: u64) -> Mem<()>
         requires { 0 < nth }
         ensures keeps { Keeps D.Disk self.old self.new }
-        ensures armed { OnOk result (arms_under D.Disk self.new.node.disk
-            ≡ option_map (λ arms. arms ++ (nth, choice) ∷ []) (arms_under D.Disk self.old.node.disk)) }
+        ensures armed { OnOk result (
+            arms_under D.Disk self.new.node.disk ≡ armed_under D.Disk nth choice self.old.node.disk) }
         ensures unarmed { OnErr result (arms_under D.Disk self.new.node.disk ≡ arms_under D.Disk self.old.node.disk) }
+        ensures calls { calls_under D.Disk self.new.node.disk ≡ calls_under D.Disk self.old.node.disk }
         ensures trail { HasSameTrail self.old self.new }
         ensures outs { self.new.node.outs ≡ self.old.node.outs }
         ensures ins { self.new.ins ≡ self.old.ins }

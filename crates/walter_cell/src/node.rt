@@ -1,5 +1,5 @@
 //! A site over its disk, with its trail and its ends of the lanes to the others.
-ghost use Rattle.std.specs.Prelude.{◌≡◌, ◌<◌, ◌≤◌, true, ◌-◌, ◌++◌, ◌+◌, ◌≢◌, ◌∷◌, [], ℕ, max, slice_get, length};
+ghost use Rattle.std.specs.Prelude.{◌≡◌, ◌<◌, ◌≤◌, true, ◌-◌, ◌+◌, ◌≢◌, [], ℕ, max, slice_get, length};
 ghost use Rattle.std.specs.Prelude.{vec_capacity, IsOk, option_map, Some, OnErr, OnOk, IfOk, IfErr, IfSome, IfNone};
 ghost use mathlib.Core.List.{IsPrefix};
 ghost use Rattle.walter_base.specs.Sizes.{most_in};
@@ -73,7 +73,7 @@ impl<D: Disk + Drop> Node<D> {
     ghost use Rattle.walter_rules.specs.Layouts.{header_of};
     ghost use Rattle.walter_rules.specs.Trails.{IsNextStamp};
     ghost use Rattle.walter_cell.specs.Nodes.{clock_in, places_in, standing_of, IsReady, IsSameButRoom, IsSameButLanes, IsSameButDisk};
-    ghost use Rattle.walter_cell.specs.Nodes.{IsSound, Takes, arms_under, is_told};
+    ghost use Rattle.walter_cell.specs.Nodes.{IsSound, Takes, arms_under, armed_under, calls_under, is_told};
 
     /// A site over its disk, up in its first epoch, with memory for so many entries. Where it doesn't begin the disk
     /// comes back.
@@ -207,9 +207,10 @@ impl<D: Disk + Drop> Node<D> {
     /// Does to the disk what `Disk::arm` does.
     pub fn arm(&mut self, nth: u64, choice: u64) -> Mem<()>
         requires { 0 < nth }
-        ensures armed { OnOk result (arms_under D.Disk self.new.disk
-            ≡ option_map (λ arms. arms ++ (nth, choice) ∷ []) (arms_under D.Disk self.old.disk)) }
+        ensures armed { OnOk result (
+            arms_under D.Disk self.new.disk ≡ armed_under D.Disk nth choice self.old.disk) }
         ensures unarmed { OnErr result (arms_under D.Disk self.new.disk ≡ arms_under D.Disk self.old.disk) }
+        ensures calls { calls_under D.Disk self.new.disk ≡ calls_under D.Disk self.old.disk }
         ensures told { is_told D.Disk self.new.disk ≡ is_told D.Disk self.old.disk }
         ensures same { IsSameButDisk self.old self.new }
     {

@@ -1,10 +1,10 @@
 //! What a site does that is pumped: all that has arrived is taken, as the link chooses; then comes the packet in front, or
 //! the next commit of a peer, or a tick.
-ghost use Rattle.std.specs.Prelude.{◌≡◌, ◌<◌, ◌≤◌, ◌∷◌, [], None, List, true, drop, length, slice_get, Some, IfOk, OnErr, OnOk};
+ghost use Rattle.std.specs.Prelude.{◌≡◌, ◌<◌, ◌≤◌, ◌∷◌, [], ℕ, None, List, true, drop, length, slice_get, Some, IsSome, IfOk, OnErr, OnOk};
 ghost use Rattle.walter_base.specs.Vectors.{most_sites};
-ghost use Rattle.walter_cell.specs.Cells.{HasSameTrail, Proceeds};
+ghost use Rattle.walter_cell.specs.Cells.{HasSameTrail, Proceeds, arrival};
 ghost use Rattle.walter_cell.specs.Pumps.{IsLeastAt, Pumps, TakesSome, WorksAt, acted_so, counts_in};
-ghost use Rattle.walter_link.specs.Pumps.{HasTaken, KeepsPump, take_arrived};
+ghost use Rattle.walter_link.specs.Pumps.{HasTaken, KeepsPump, take_arrived, taken_from};
 
 use crate::answers::{Acted, Moved, Pumped};
 use crate::cell::Cell;
@@ -21,6 +21,8 @@ impl<D: Disk + Drop, S: Source + Drop, K: Sink + Drop> Cell<D, S, K> {
         requires few { length self.old.ins ≤ most_sites }
         requires site { pump.old.site ≡ self.old.node.site }
         requires senders { length pump.old.senders ≡ length self.old.ins }
+        // What was taken has arrived.
+        requires taken { (from : ℕ) → taken_from pump.old from ≤ counts_in self.old.ins from }
         ensures proceeds { Proceeds D.Disk self.old self.new }
         ensures pumps { IfOk result (Pumps D.Disk self.old self.new pump.old pump.new) }
         ensures kept { OnErr result (HasSameTrail self.old self.new) }
@@ -74,6 +76,7 @@ impl<D: Disk + Drop, S: Source + Drop, K: Sink + Drop> Cell<D, S, K> {
         requires senders { length pump.old.senders ≡ length self.old.ins }
         requires first { slice_get pump.old.waiting 0 ≡ Some first }
         requires taken { HasTaken pump.old first }
+        requires there { IsSome (arrival self.old.ins first.from first.number) }
         ensures proceeds { Proceeds D.Disk self.old self.new }
         ensures works { IfOk result (WorksAt D.Disk self.old self.new pump.old pump.new) }
         ensures kept { OnErr result (HasSameTrail self.old self.new) }

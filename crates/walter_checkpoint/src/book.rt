@@ -1,6 +1,6 @@
 //! A book on a disk: bodies are appended to its live area, and packed into the other.
-ghost use Rattle.std.specs.Prelude.{◌≡◌, ◌≢◌, ◌^◌, ◌+◌, ◌≤◌, ◌-◌, ◌/◌, ◌++◌, ◌∷◌, ℕ, List, length, option_map, is_some, is_err, slice_get, true, false, [], min, ◌<◌, Err, Some, IfSome, OnOk, OnErr};
-ghost use Rattle.walter_disk.specs.Disks.{written, Fails, TakesRoom};
+ghost use Rattle.std.specs.Prelude.{◌≡◌, ◌≢◌, ◌^◌, ◌+◌, ◌≤◌, ◌-◌, ◌/◌, ◌++◌, ◌∷◌, ℕ, List, length, is_some, is_err, slice_get, true, false, [], min, ◌<◌, Err, Some, IfSome, OnOk, OnErr};
+ghost use Rattle.walter_disk.specs.Disks.{armed_at, written, Fails, TakesRoom};
 ghost use Rattle.walter_disk.specs.Images.{IsDurable, LeavesOnly};
 ghost use Rattle.walter_checkpoint.specs.Books.{areas_of, HasLaid, IsLaidBeforeOrBehind};
 ghost use Rattle.walter_checkpoint.specs.Books.{disk_of, shape_of, left_of, HasRoom, HasRoomBehind, ReachesBehind, IsSameBook, Appends, live_after, switch_of, calls_of_pack, StandsFor, GoesOn, IsReady, IsOther, HasPackRoom, HasBeenWritten, ChangesFrom, Packs};
@@ -64,10 +64,8 @@ impl<D: Disk> Book<D> {
     /// Does to the disk what `Disk::arm` does.
     pub fn arm(&mut self, nth: u64, choice: u64) -> Mem<()>
         requires { 0 < nth }
-        ensures armed { let old = D.known (disk_of self.old) in
-            OnOk result (D.known (disk_of self.new) ≡ record old {
-              arms = option_map (λ arms. arms ++ (nth, choice) ∷ []) old.arms;
-            }) }
+        ensures armed { let old = disk_of self.old in
+            OnOk result (D.known (disk_of self.new) ≡ armed_at (D.device_calls old) nth choice (D.known old)) }
         ensures same { OnErr result (D.known (disk_of self.new) ≡ D.known (disk_of self.old)) }
         ensures room { (n : ℕ) → HasRoom self.old n → HasRoom self.new n }
         ensures room_behind { (n : ℕ) → HasRoomBehind self.old n → HasRoomBehind self.new n }

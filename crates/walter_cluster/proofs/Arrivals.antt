@@ -26,7 +26,7 @@ use Rattle.walter_cell.specs.Cells.{CellValue, Acts, MovesTo, arrival}
 use Rattle.walter_cell.specs.Cells as cell
 use Rattle.walter_cell.specs.Entries.{Grows, HasPlace, IsSpent}
 use Rattle.walter_machine.specs.Comings.{IsSized}
-use Rattle.walter_cell.specs.Nodes.{NodeValue, MayDrop, clock_in, is_told, standing_of}
+use Rattle.walter_cell.specs.Nodes.{NodeValue, MayCall, MayDrop, calls_under, capacity_of, clock_in, is_told, standing_of}
 use Rattle.walter_disk.specs.declared.disk.Disk.{Ghosts}
 use Rattle.walter_lane.specs.Lanes.{Receiving}
 use Rattle.walter_lane.specs.declared.posted.Posted.{Posted}
@@ -38,17 +38,18 @@ use Rattle.walter_rules.specs.declared.entry.Entry.{Entry}
 use Rattle.walter_rules.specs.declared.event.Event.TheVariants.{Given}
 use Rattle.walter_rules.specs.declared.event.Input.TheVariants.{Deliver}
 use Rattle.walter_rules.specs.Knowledge.{site_at}
+use Rattle.walter_rules.specs.Layouts.{Layout}
 use Rattle.walter_rules.specs.Merges.{Stamped, sent_to, put_out_to, trail_of}
 use Rattle.walter_rules.specs.Sending.{Send}
 use Rattle.walter_rules.specs.Trails.{clock, standing}
 use Rattle.walter_rules.proofs.Membership.{given_from}
-use Rattle.walter_cluster.specs.Benches.{IsBench, Keeps, trails_of}
+use Rattle.walter_cluster.specs.Benches.{IsBench, Keeps, calls_at, trails_of}
 use Rattle.walter_cluster.specs.Meetings.{arrived_at, HaveAllMet, HaveStayed, HasArrived, IsAsBefore}
-use Rattle.walter_cluster.specs.Moments.{moment_of, clock_at, KeepsArms, ChangesAt, AllArrive, put_out_as, HandsOver, MovesAt, DropsAt, Drops, arrives as moves_after}
+use Rattle.walter_cluster.specs.Moments.{moment_of, clock_at, KeepsArms, ChangesAt, AllArrive, put_out_as, HandsOver, MovesAt, CallsAt, CallsDisk, DropsAt, Drops, arrives as moves_after}
 use Rattle.walter_cluster.proofs.Changes.{there_is, field_at, field_past, ChangesOne}
 use Rattle.walter_cluster.proofs.Keeping.{ins_long, each_on, each_one, more_arrived}
-use Rattle.walter_cluster.proofs.Meetings.{trails_stay, arms_stay, each_stays}
-use Rattle.walter_cluster.proofs.Benches.{changes_at, none_arrive, all_met_kept, arms_kept, trail_was, trail_now, drops_at}
+use Rattle.walter_cluster.proofs.Meetings.{trails_stay, arms_stay, calls_stay, each_stays}
+use Rattle.walter_cluster.proofs.Benches.{changes_at, none_arrive, all_met_kept, arms_kept, trail_was, trail_now, disk_calls_at, drops_at}
 
 -- ---- what is put out has a spelling
 
@@ -129,6 +130,15 @@ module _ {D : Type 0} (g : Ghosts D) (homes : List SiteId)
       ∙ (ap (λ (l : List Posted). length l) (field_past (λ (r : Receiving). r.arrived) c.0.ins from.0 [] (omega (arith, many, past)))
       ∙ sym (ap (λ (es : List Entry). length (put_out_to to es)) (field_past (λ (c : CellValue D). c.node.trail) old from.0 [] past)))
 
+  -- no more was taken than had arrived
+  pub taken_before : (a : CellValue D) → slice_get mid to.0 ≡ Some a → (before : PumpValue) → IsPumpAt old to before
+      → (from : ℕ) → taken_from before from ≤ counts_in a.ins from
+  taken_before a at before is_pump from =
+      let most = is_pump.taken from in
+      let more = more_arrived g old mid (each_stays old mid stay g) to.0 from in
+      let now = ap (λ (is : List Receiving). length (arrived_from is from)) (field_at (λ (c : CellValue D). c.ins) mid to.0 a [] at) in
+      omega (arith, most, more, now)
+
   module _ (new : List (CellValue D)) (a x : CellValue D) (one : ChangesOne mid new to.0 a x) (proceeds : cell.Proceeds g a x) where
     pub all_arrive : AllArrive to (moment_of g old) (moment_of g new)
     all_arrive = record {
@@ -151,6 +161,7 @@ module _ {D : Type 0} (g : Ghosts D) (homes : List SiteId)
           sites = changes.sites ∙ ap length same;
           others = λ j apart. changes.others j apart ∙ ap (λ ts. trail_of ts j) same;
           arms = delivered_arms;
+          calls = λ j apart. changes.calls j apart ∙ calls_stay old mid stay g j;
         }
 
     trail_on : trail_of (trails_of old) to ≡ a.node.trail
@@ -196,14 +207,6 @@ module _ {D : Type 0} (g : Ghosts D) (homes : List SiteId)
         ap (λ (is : List Receiving). length (arrived_from is from.0)) (sym (field_at (λ (c : CellValue D). c.ins) mid to.0 a [] one.was))
         ∙ (ap (λ (l : List Posted). length l) (arrives from.0 within (λ e. apart (ap site_at e))).all
         ∙ length-map (put_out_to to (trail_of (trails_of old) from)) (posted (length old)))
-
-    -- no more was taken than had arrived
-    pub taken_before : (before : PumpValue) → IsPumpAt old to before → (from : ℕ) → taken_from before from ≤ counts_in a.ins from
-    taken_before before is_pump from =
-        let most = is_pump.taken from in
-        let more = more_arrived g old mid (each_stays old mid stay g) to.0 from in
-        let now = ap (λ (is : List Receiving). length (arrived_from is from)) (field_at (λ (c : CellValue D). c.ins) mid to.0 a [] one.was) in
-        omega (arith, most, more, now)
 
     -- a packet that was taken is there
     never_missing : (pump : PumpValue) (first : Waiting) (answer : Moved) → HasTaken pump first → pump.site ≡ to → length pump.senders ≡ length old
@@ -275,8 +278,8 @@ module _ {D : Type 0} (g : Ghosts D) (homes : List SiteId)
           let site : pump.site ≡ to = keeps.site ∙ is_pump.site in
           let within : first.from.0 < length old = (let t = taken.there in omega (arith, t, many)) in
           let apart : first.from ≢ to = λ e. taken.apart (e ∙ sym site) in
-          let hands = hands_at first.from first.number moved apart within moves in
-          let most = keeps.taken first.from.0 (taken_before before is_pump first.from.0) in
+          let hands = hands_at first.from first.number moved apart within moves.moves in
+          let most = keeps.taken first.from.0 (taken_before a one.was before is_pump first.from.0) in
           (never_missing pump first moved taken site many most hands, hands))
           acts_on
           (λ still. trail_now g mid new to a x one ∙ (still ∙ sym trail_on))
@@ -291,6 +294,28 @@ module _ {D : Type 0} (g : Ghosts D) (homes : List SiteId)
         subst (λ (f : ℕ → ℕ). MayDrop catalog to f (trail_of (trails_of old) to) (trail_of (trails_of new) to)) (fun_ext same)
         (subst (λ ts. MayDrop catalog to (λ n. length (arrived_at mid n to.0)) (trail_of ts to) (trail_of (trails_of new) to)) (trails_stay old mid stay)
         (drops_at g mid new to a x one catalog all drops))
+
+    -- the calls of the disk are those of the entry
+    calls_on : (capacity : ℕ) (catalog : Catalog)
+        → MayCall capacity catalog to a.node.trail x.node.trail (calls_under g a.node.disk) (calls_under g x.node.disk)
+        → CallsAt capacity catalog to (moment_of g old) (moment_of g new)
+    calls_on capacity catalog calls =
+        subst (λ n. MayCall capacity catalog to (trail_of (trails_of old) to) (trail_of (trails_of new) to) n (calls_at g new to.0)) (calls_stay old mid stay g to.0)
+        (subst (λ ts. MayCall capacity catalog to (trail_of ts to) (trail_of (trails_of new) to) (calls_at g mid to.0) (calls_at g new to.0)) (trails_stay old mid stay)
+        (disk_calls_at g mid new to a x one capacity catalog calls))
+
+    pub delivered_calls : CallsDisk g to (record { cells = old; homes = homes }) (record { cells = new; homes = homes })
+    delivered_calls told c at =
+        let node = (stay.each to.0 c a at one.was).node in
+        let catalog = ap (λ (n : NodeValue D). n.catalog) node in
+        let layout = ap (λ (n : NodeValue D). n.layout) node in
+        let site = ap (λ (n : NodeValue D). n.site) node ∙ (is.cells to.0 c at).site in
+        subst (λ (k : Catalog). CallsAt (capacity_of c.node.layout) k to (moment_of g old) (moment_of g new)) catalog
+        (subst (λ (l : Layout). CallsAt (capacity_of l) a.node.catalog to (moment_of g old) (moment_of g new)) layout
+        (calls_on (capacity_of a.node.layout) a.node.catalog
+        (subst (λ (n : SiteId). MayCall (capacity_of a.node.layout) a.node.catalog n a.node.trail x.node.trail
+        (calls_under g a.node.disk) (calls_under g x.node.disk)) site
+        (proceeds.calls (ap (λ (n : NodeValue D). is_told g n.disk) node ∙ told c at)))))
 
     -- what the delivery keeps behind the meetings
     module _ (met : HaveAllMet old → HaveAllMet mid) where

@@ -1,5 +1,5 @@
 -- The cells of all sites, of which one is another.
-use Rattle.std.proofs.Common.{◌≡◌, ℕ, ◌<◌, List, [], ◌∷◌, ◌++◌, length, reverse, get_or, set, refl, ap, sym, ◌∙◌, subst, arith, Option, None, option_map, Result, Ok, Err}
+use Rattle.std.proofs.Common.{◌≡◌, ℕ, ◌<◌, List, [], length, reverse, get_or, set, refl, ap, sym, ◌∙◌, subst, arith, Option, None, Result, Ok, Err}
 use Rattle.std.specs.Prelude.{slice_index_or, OnErr}
 use Rattle.std.proofs.Math.Path.{fun_ext}
 use Rattle.std.proofs.lemmas.List.{length-map}
@@ -11,7 +11,8 @@ use Rattle.walter_cell.specs.declared.answers.Serve.{Serve}
 use Rattle.walter_cell.specs.Cells.{CellValue, TurnsTo, Acts}
 use Rattle.walter_cell.specs.Cells as cell
 use Rattle.walter_cell.specs.Lines.{LineValue, HasFaultAt}
-use Rattle.walter_cell.specs.Nodes.{MayDrop, clock_in, arms_under}
+use Rattle.walter_cell.specs.Nodes.{MayCall, MayDrop, clock_in, arms_under, armed_under, calls_under, capacity_of}
+use Rattle.walter_disk.specs.Disks.{Arming, and_arming}
 use Rattle.walter_disk.specs.declared.disk.Disk.{Ghosts}
 use Rattle.walter_lane.specs.Lanes.{Sending, Receiving}
 use Rattle.walter_outbox.specs.Lanes.{arrived_from, mets, met_to}
@@ -20,19 +21,20 @@ use Rattle.walter_rules.specs.declared.event.Event.{Event}
 use Rattle.walter_rules.specs.Knowledge.{site_at}
 use Rattle.walter_rules.specs.Merges.{trail_of}
 use Rattle.walter_rules.specs.Trails.{clock}
-use Rattle.walter_cluster.specs.Benches.{Keeps, trails_of, ins_at, lines_at, arms_at}
+use Rattle.walter_cluster.specs.Benches.{Keeps, trails_of, ins_at, lines_at, arms_at, calls_at}
 use Rattle.walter_cluster.specs.Meetings.{HaveAllMet}
-use Rattle.walter_cluster.specs.Moments.{Moment, moment_of, clock_at, KeepsArms, ChangesAt, NoneArrive, DropsAt, Drops, TurnsAt, ActsAt, ArmsAt}
+use Rattle.walter_cluster.specs.Moments.{Moment, moment_of, clock_at, KeepsArms, ChangesAt, NoneArrive, CallsAt, CallsDisk, DropsAt, Drops, TurnsAt, ActsAt, ArmsAt}
 use Rattle.walter_cluster.proofs.Changes.{one_there, field_at, ChangesOne, one_set, reads_same, others_same, field_kept}
 use Rattle.walter_cluster.proofs.Keeping.{each_one}
 
--- moments with the same trails, packets and arms are the same
-same_moments : (m n : Moment) → n.trails ≡ m.trails → NoneArrive m n → KeepsArms m n → n ≡ m
-same_moments m n trails arrive arms =
-    let by_trails : List (List Entry) → Moment = λ ts. record { trails = ts; arrived = n.arrived; arms = n.arms } in
-    let by_arrived : (ℕ → ℕ → ℕ) → Moment = λ f. record { trails = m.trails; arrived = f; arms = n.arms } in
-    let by_arms : (ℕ → Option (List (ℕ × ℕ))) → Moment = λ f. record { trails = m.trails; arrived = m.arrived; arms = f } in
-    ap by_trails trails ∙ (ap by_arrived (fun_ext (λ to. fun_ext (λ from. arrive to from))) ∙ ap by_arms (fun_ext arms))
+-- moments with the same trails, packets, arms and calls are the same
+same_moments : (m n : Moment) → n.trails ≡ m.trails → NoneArrive m n → KeepsArms m n → ((j : ℕ) → n.calls j ≡ m.calls j) → n ≡ m
+same_moments m n trails arrive arms calls =
+    let by_trails : List (List Entry) → Moment = λ ts. record { trails = ts; arrived = n.arrived; arms = n.arms; calls = n.calls } in
+    let by_arrived : (ℕ → ℕ → ℕ) → Moment = λ f. record { trails = m.trails; arrived = f; arms = n.arms; calls = n.calls } in
+    let by_arms : (ℕ → Option (List Arming)) → Moment = λ f. record { trails = m.trails; arrived = m.arrived; arms = f; calls = n.calls } in
+    let by_calls : (ℕ → ℕ) → Moment = λ f. record { trails = m.trails; arrived = m.arrived; arms = m.arms; calls = f } in
+    ap by_trails trails ∙ (ap by_arrived (fun_ext (λ to. fun_ext (λ from. arrive to from))) ∙ (ap by_arms (fun_ext arms) ∙ ap by_calls (fun_ext calls)))
 
 module _ {D : Type 0} (g : Ghosts D) where
   -- ---- one cell is another
@@ -51,12 +53,17 @@ module _ {D : Type 0} (g : Ghosts D) where
     arms_kept same j =
         reads_same (λ (c : CellValue D). arms_under g c.node.disk) old new i.0 a x one (λ arms. arms) None same j
 
+    pub calls_kept : calls_under g x.node.disk ≡ calls_under g a.node.disk → (j : ℕ) → calls_at g new j ≡ calls_at g old j
+    calls_kept same j =
+        reads_same (λ (c : CellValue D). calls_under g c.node.disk) old new i.0 a x one (λ n. n) 0 same j
+
     pub changes_at : arms_under g x.node.disk ≡ arms_under g a.node.disk → ChangesAt i (moment_of g old) (moment_of g new)
     changes_at arms = record {
       sites = length-map new (λ (c : CellValue D). c.node.trail)
           ∙ (one.long ∙ sym (length-map old (λ (c : CellValue D). c.node.trail)));
       others = λ j apart. others_same (λ (c : CellValue D). c.node.trail) old new i.0 a x one [] j.0 (λ e. apart (ap site_at e));
       arms = arms_kept arms;
+      calls = λ j apart. others_same (λ (c : CellValue D). calls_under g c.node.disk) old new i.0 a x one 0 j apart;
     }
 
     pub none_arrive : x.ins ≡ a.ins → NoneArrive (moment_of g old) (moment_of g new)
@@ -76,22 +83,31 @@ module _ {D : Type 0} (g : Ghosts D) where
     arms_now : arms_at g new i.0 ≡ arms_under g x.node.disk
     arms_now = field_at (λ (c : CellValue D). arms_under g c.node.disk) new i.0 x None one.now
 
+    calls_was : calls_at g old i.0 ≡ calls_under g a.node.disk
+    calls_was = field_at (λ (c : CellValue D). calls_under g c.node.disk) old i.0 a 0 one.was
+
+    calls_now : calls_at g new i.0 ≡ calls_under g x.node.disk
+    calls_now = field_at (λ (c : CellValue D). calls_under g c.node.disk) new i.0 x 0 one.now
+
     -- the disk there is armed once more
-    pub arms_there : (nth choice : ℕ) → x.node.trail ≡ a.node.trail → x.ins ≡ a.ins
-        → arms_under g x.node.disk ≡ option_map (λ arms. arms ++ (nth, choice) ∷ []) (arms_under g a.node.disk)
+    pub arms_there : (nth choice : ℕ) → x.node.trail ≡ a.node.trail → x.ins ≡ a.ins → calls_under g x.node.disk ≡ calls_under g a.node.disk
+        → arms_under g x.node.disk ≡ armed_under g nth choice a.node.disk
         → ArmsAt i nth choice (moment_of g old) (moment_of g new)
-    arms_there nth choice entries ins armed = record {
-      here = arms_now ∙ (armed ∙ ap (option_map (λ arms. arms ++ (nth, choice) ∷ [])) (sym arms_was));
+    arms_there nth choice entries ins calls armed = record {
+      here = arms_now ∙ (armed
+          ∙ (ap (λ n. and_arming (record { at = n; nth = nth; choice = choice }) (arms_under g a.node.disk)) (sym calls_was)
+          ∙ ap (and_arming (record { at = calls_at g old i.0; nth = nth; choice = choice })) (sym arms_was)));
       others = λ j apart. others_same (λ (c : CellValue D). arms_under g c.node.disk) old new i.0 a x one None j apart;
+      calls = calls_kept calls;
       trails = trails_kept entries;
       none_arrive = none_arrive ins;
     }
 
     -- nothing is other
-    pub same_moment : x.node.trail ≡ a.node.trail → x.ins ≡ a.ins → arms_under g x.node.disk ≡ arms_under g a.node.disk
-        → moment_of g new ≡ moment_of g old
-    same_moment entries ins arms =
-        same_moments (moment_of g old) (moment_of g new) (trails_kept entries) (none_arrive ins) (arms_kept arms)
+    pub same_moment : x.node.trail ≡ a.node.trail → x.ins ≡ a.ins → calls_under g x.node.disk ≡ calls_under g a.node.disk
+        → arms_under g x.node.disk ≡ arms_under g a.node.disk → moment_of g new ≡ moment_of g old
+    same_moment entries ins calls arms =
+        same_moments (moment_of g old) (moment_of g new) (trails_kept entries) (none_arrive ins) (arms_kept arms) (calls_kept calls)
 
     -- the stamp of the last entry there
     pub clock_was : clock_at (moment_of g old) i ≡ clock_in a.node
@@ -142,6 +158,16 @@ module _ {D : Type 0} (g : Ghosts D) where
         (subst (λ (es : List Entry). MayDrop catalog i (met_to a.node.outs) es (trail_of (trails_of new) i)) (sym trail_was)
         (subst (λ (es : List Entry). MayDrop catalog i (met_to a.node.outs) a.node.trail es) (sym trail_now) drops))
 
+    -- the calls of the disk there are those of the entry
+    pub disk_calls_at : (capacity : ℕ) (catalog : Catalog)
+        → MayCall capacity catalog i a.node.trail x.node.trail (calls_under g a.node.disk) (calls_under g x.node.disk)
+        → CallsAt capacity catalog i (moment_of g old) (moment_of g new)
+    disk_calls_at capacity catalog calls =
+        subst (λ n. MayCall capacity catalog i (trail_of (trails_of old) i) (trail_of (trails_of new) i) n (calls_at g new i.0)) (sym calls_was)
+        (subst (λ n. MayCall capacity catalog i (trail_of (trails_of old) i) (trail_of (trails_of new) i) (calls_under g a.node.disk) n) (sym calls_now)
+        (subst (λ (es : List Entry). MayCall capacity catalog i es (trail_of (trails_of new) i) (calls_under g a.node.disk) (calls_under g x.node.disk)) (sym trail_was)
+        (subst (λ (es : List Entry). MayCall capacity catalog i a.node.trail es (calls_under g a.node.disk) (calls_under g x.node.disk)) (sym trail_now) calls)))
+
     -- what an event keeps that comes to one of the sites
     module _ (homes : List SiteId) (proceeds : cell.Proceeds g a x) where
       pub proceeds_keeps : Keeps g (record { cells = old; homes = homes }) (record { cells = new; homes = homes })
@@ -153,6 +179,14 @@ module _ {D : Type 0} (g : Ghosts D) where
 
       pub proceeds_arms : KeepsArms (moment_of g old) (moment_of g new)
       proceeds_arms = arms_kept proceeds.arms
+
+      pub proceeds_calls : a.node.site ≡ i → CallsDisk g i (record { cells = old; homes = homes }) (record { cells = new; homes = homes })
+      proceeds_calls here told c at =
+          let same = one_there old i.0 a c one.was at in
+          subst (λ (b : CellValue D). CallsAt (capacity_of b.node.layout) b.node.catalog i (moment_of g old) (moment_of g new)) same
+          (disk_calls_at (capacity_of a.node.layout) a.node.catalog
+          (subst (λ (n : SiteId). MayCall (capacity_of a.node.layout) a.node.catalog n a.node.trail x.node.trail
+          (calls_under g a.node.disk) (calls_under g x.node.disk)) here (proceeds.calls (told a one.was))))
 
       pub proceeds_drops : a.node.site ≡ i → Drops g i (record { cells = old; homes = homes }) (record { cells = new; homes = homes })
       proceeds_drops here met told c at =

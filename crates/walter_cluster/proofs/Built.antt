@@ -13,8 +13,10 @@ use Rattle.walter_base.specs.Sizes.{most_in}
 use Rattle.walter_base.specs.Vectors.{most_sites}
 use Rattle.walter_cell.specs.Cells.{CellValue}
 use Rattle.walter_cell.specs.Lines.{LineValue, IsLine, is_here, is_there}
-use Rattle.walter_cell.specs.Nodes.{arms_under}
+use Rattle.walter_cell.proofs.DiskCalls.{capacity_is}
+use Rattle.walter_cell.specs.Nodes.{arms_under, calls_under, capacity_of}
 use Rattle.walter_cell.specs.Written.{replies_to, AreWritten}
+use Rattle.walter_disk.specs.Disks.{Arming}
 use Rattle.walter_disk.specs.declared.disk.Disk.{Ghosts}
 use Rattle.walter_rules.specs.Trails.{opening}
 use Rattle.walter_lane.specs.Lanes.{Sending, Receiving}
@@ -25,8 +27,8 @@ use Rattle.walter_scenario.specs.declared.scenario.Client.{Client}
 use Rattle.walter_scenario.specs.declared.scenario.Scenario.{Scenario}
 use Rattle.walter_trail.specs.Calls.{calls_of}
 use Rattle.walter_cluster.specs.declared.opening.Parts.{Parts}
-use Rattle.walter_cluster.specs.Benches.{outs_at, ins_at, arms_at, is_site, is_home, IsCellAt, IsBench, IsOf, IsToldAt, AreRoomy, AreAllConnected, AreAllAnswered, AreMet, HasRoom}
-use Rattle.walter_cluster.specs.Builds.{AreUnread, AreUnwritten, AreUnarmed, AreLaid, HadNoRecords}
+use Rattle.walter_cluster.specs.Benches.{outs_at, ins_at, arms_at, calls_at, is_site, is_home, IsCellAt, IsBench, IsOf, IsToldAt, AreRoomy, AreAllConnected, AreAllAnswered, AreMet, HasRoom}
+use Rattle.walter_cluster.specs.Builds.{AreUnread, AreUnwritten, AreUnarmed, AreCallsOnceBegun, AreLaid, HadNoRecords}
 use Rattle.walter_cluster.specs.Lanes.{AreJoined, rows_in, columns_in, row_of, column_of}
 use Rattle.walter_cluster.specs.Moments.{IsFirst, moment_of}
 use Rattle.walter_cluster.specs.Openings.{HasPlaces, HasBegunAt, HaveBegun, ArePrepared}
@@ -131,6 +133,9 @@ module _ {D : Type 0} (g : Ghosts D) (t : Scenario) (disks : List D) (rows : Lis
   of_built homes homes_are = record {
     sites = begun.long;
     catalogs = λ i c at. (begun_at i c at).2.begun.node.catalog_is;
+    capacities = λ i c at.
+        let sized = (begun_at i c at).2.begun.node.sized in
+        ap capacity_of sized.3 ∙ capacity_is sized.0 t.capacity t.catalog.sites sized.1;
     homes = homes_are;
   }
 
@@ -142,6 +147,12 @@ module _ {D : Type 0} (g : Ghosts D) (t : Scenario) (disks : List D) (rows : Lis
 
   pub none_had_built : HadNoRecords g t disks
   none_had_built = none_had g t disks rows columns lists t.catalog.sites cells begun (sym disks_long)
+
+  pub calls_built : AreCallsOnceBegun g t disks (calls_at g cells)
+  calls_built i disk at =
+      let within = slice_get_within disks i disk at in
+      let c = at_place cells i (omega (arith, within, disks_long, begun.long)) in
+      field_at (λ (c : CellValue D). calls_under g c.node.disk) cells i c.0 0 c.1 ∙ (begun.each i disk c.0 at c.1).begun.node.calls
 
   pub laid_built : AreLaid g t disks cells
   laid_built i disk c bytes at here has =
@@ -175,11 +186,11 @@ module _ {D : Type 0} (g : Ghosts D) (t : Scenario) (disks : List D) (rows : Lis
         let c = at_place cells i within in
         let one = begun_at i c.0 c.1 in
         let now = one.2 in
-        subst (λ (o : Option (List (ℕ × ℕ))). IfSome o (λ arms. arms ≡ []))
+        subst (λ (o : Option (List Arming)). IfSome o (λ arms. arms ≡ []))
         (sym (field_at (λ (c : CellValue D). arms_under g c.node.disk) cells i c.0 None c.1 ∙ (ap (arms_under g) now.now_is ∙ now.leaves.arms)))
         (unarmed i one.0 one.1)
     none_armed unarmed i (inr past) =
-        subst (λ (o : Option (List (ℕ × ℕ))). IfSome o (λ arms. arms ≡ [])) (sym (field_past (λ (c : CellValue D). arms_under g c.node.disk) cells i None past)) tt
+        subst (λ (o : Option (List Arming)). IfSome o (λ arms. arms ≡ [])) (sym (field_past (λ (c : CellValue D). arms_under g c.node.disk) cells i None past)) tt
 
     pub first_built : AreUnarmed g disks → IsFirst t.catalog.sites (moment_of g cells)
     first_built unarmed = record {

@@ -1,5 +1,5 @@
 -- A bench where all has arrived at a site, and what comes to the cell there.
-use Rattle.std.proofs.Common.{◌≡◌, ◌≢◌, ◌<◌, ◌+◌, ℕ, zero, suc, Bool, List, [], true, false, length, reverse, get_or, set, slice_get, Some, refl, ap, sym, ◌∙◌, subst, arith, inl}
+use Rattle.std.proofs.Common.{◌≡◌, ◌≢◌, ◌<◌, ◌≤◌, ◌+◌, ℕ, zero, suc, Bool, List, [], true, false, length, reverse, get_or, set, slice_get, Some, refl, ap, sym, ◌∙◌, subst, arith, inl}
 use Rattle.std.proofs.lemmas.Option.{slice_get_read}
 use Rattle.walter_base.specs.declared.names.SiteId.{SiteId}
 use Rattle.walter_cell.specs.declared.answers.Moved.{Moved}
@@ -8,23 +8,23 @@ use Rattle.walter_cell.specs.Cells.{CellValue, MovesTo, arrival}
 use Rattle.walter_cell.specs.Cells as cell
 use Rattle.walter_cell.specs.Entries.{HasPlace, IsSpent}
 use Rattle.walter_cell.specs.Nodes.{NodeValue, clock_in, is_told, standing_of}
-use Rattle.walter_cell.specs.Pumps.{Pumps, counts_in}
+use Rattle.walter_cell.specs.Pumps.{Pumps, TakesSome, counts_in}
 use Rattle.walter_disk.specs.declared.disk.Disk.{Ghosts}
 use Rattle.walter_lane.specs.Lanes.{Receiving}
 use Rattle.walter_base.specs.Names.{same_site}
-use Rattle.walter_link.specs.Pumps.{PumpValue, KeepsPump, take_below, take_other}
+use Rattle.walter_link.specs.Pumps.{PumpValue, KeepsPump, take_below, take_other, taken_from}
 use Rattle.walter_link.proofs.Taking.{keeps_self, keeps_on, take_keeps}
 use Rattle.walter_rules.specs.declared.entry.Entry.{Entry}
 use Rattle.walter_rules.specs.Merges.{trail_of}
 use Rattle.walter_rules.specs.Trails.{clock, standing}
 use Rattle.walter_cluster.specs.Benches.{BenchValue, IsBench, Keeps, trails_of}
 use Rattle.walter_cluster.specs.Meetings.{HasArrived, HasGathered}
-use Rattle.walter_cluster.specs.Moments.{KeepsArms, MovesAt, Drops, moment_of, clock_at}
+use Rattle.walter_cluster.specs.Moments.{KeepsArms, MovesAt, CallsDisk, Drops, moment_of, clock_at}
 use Rattle.walter_cluster.specs.Pumps.{IsPumpAt, PumpsAt, standing_at}
-use Rattle.walter_cluster.proofs.Arrivals.{ins_here, moves_at, pumps_at, taken_before, delivered_keeps, delivered_arms, delivered_drops, place_left}
+use Rattle.walter_cluster.proofs.Arrivals.{ins_here, moves_at, pumps_at, taken_before, delivered_keeps, delivered_arms, delivered_calls, delivered_drops, place_left}
 use Rattle.walter_cluster.proofs.Benches.{one_at, trails_kept}
 use Rattle.walter_cluster.proofs.Changes.{ChangesOne, there_is, field_at}
-use Rattle.walter_cluster.proofs.Meetings.{trails_stay, arms_stay, each_stays}
+use Rattle.walter_cluster.proofs.Meetings.{trails_stay, arms_stay, calls_stay, each_stays}
 
 -- no more is taken than has arrived
 other_keeps : (arrived : ℕ → ℕ) (own : Bool) (n : ℕ) (p : PumpValue) → KeepsPump arrived p (take_other own (record { 0 = n }) (arrived n) p)
@@ -76,6 +76,12 @@ module _ {D : Type 0} (g : Ghosts D) (old mid : BenchValue D) (to : SiteId) (is 
   pub gathered_drops : Drops g to old mid
   gathered_drops met told cell there = inl (ap (λ ts. trail_of ts to) (trails_stay old.cells mid.cells gathers.stays))
 
+  pub gathered_calls : CallsDisk g to old mid
+  gathered_calls told cell there = inl (
+    ap (λ ts. trail_of ts to) (trails_stay old.cells mid.cells gathers.stays),
+    calls_stay old.cells mid.cells gathers.stays g to.0,
+  )
+
   pub gathered_trails : trails_of mid.cells ≡ trails_of old.cells
   gathered_trails = trails_stay old.cells mid.cells gathers.stays
 
@@ -100,6 +106,9 @@ module _ {D : Type 0} (g : Ghosts D) (old mid : BenchValue D) (to : SiteId) (is 
         let was = there_is old.cells to.0 below in
         ap (λ (n : NodeValue D). n.site) (gathers.stays.each to.0 was.0 a was.1 one.was).node ∙ (is.cells to.0 was.0 was.1).site
 
+    pub taken_here : (before : PumpValue) → IsPumpAt old.cells to before → (from : ℕ) → taken_from before from ≤ counts_in a.ins from
+    taken_here = taken_before g old.homes old.cells mid.cells gathers.stays is to below arrives gathers.elsewhere a one.was
+
     module _ (proceeds : cell.Proceeds g a x) where
       pub now_keeps : Keeps g old (record { cells = new; homes = mid.homes })
       now_keeps =
@@ -108,6 +117,9 @@ module _ {D : Type 0} (g : Ghosts D) (old mid : BenchValue D) (to : SiteId) (is 
 
       pub now_drops : Drops g to old (record { cells = new; homes = mid.homes })
       now_drops = delivered_drops g old.homes old.cells mid.cells gathers.stays is to below arrives gathers.elsewhere new a x one proceeds gathers.met
+
+      pub now_calls : CallsDisk g to old (record { cells = new; homes = mid.homes })
+      now_calls = delivered_calls g old.homes old.cells mid.cells gathers.stays is to below arrives gathers.elsewhere new a x one proceeds
 
       pub now_arms : KeepsArms (moment_of g old.cells) (moment_of g new)
       now_arms = delivered_arms g old.homes old.cells mid.cells gathers.stays is to below arrives gathers.elsewhere new a x one proceeds
@@ -121,16 +133,25 @@ module _ {D : Type 0} (g : Ghosts D) (old mid : BenchValue D) (to : SiteId) (is 
           → MovesAt to from number (moment_of g old.cells) (moment_of g new) answer
       now_moves = moves_at g old.homes old.cells mid.cells gathers.stays is to below arrives gathers.elsewhere new a x one proceeds
 
+      -- so many packets have arrived there
+      counts : (moment_of g new).arrived to.0 ≡ counts_in a.ins
+      counts = ap (λ (is : List Receiving). counts_in is) (field_at (λ (c : CellValue D). c.ins) new to.0 x [] one.now ∙ proceeds.ins)
+
       module _ (before after : PumpValue) (pump : IsPumpAt old.cells to before) where
+        pub now_taken : TakesSome a.node.site (counts_in a.ins) before after → TakesSome to ((moment_of g new).arrived to.0) before after
+        now_taken some = (
+          some.0,
+          some.1 ∙ (ap (λ (i : SiteId). take_below i (counts_in a.ins) some.0 before) site_here ∙ ap (λ (f : ℕ → ℕ). take_below to f some.0 before) (sym counts)),
+        )
+
         pub now_pump : KeepsPump (counts_in a.ins) before after → IsPumpAt new to after
         now_pump keeps =
-            let counts = ap (λ (is : List Receiving). counts_in is) (field_at (λ (c : CellValue D). c.ins) new to.0 x [] one.now ∙ proceeds.ins) in
             record {
               site = keeps.site ∙ pump.site;
               senders = keeps.senders ∙ (pump.senders ∙ sym now_keeps.cells.long);
               taken = λ from.
                   let most = keeps.taken from
-                  (taken_before g old.homes old.cells mid.cells gathers.stays is to below arrives gathers.elsewhere new a x one proceeds before pump from) in
+                  (taken_before g old.homes old.cells mid.cells gathers.stays is to below arrives gathers.elsewhere a one.was before pump from) in
                   let same = ap (λ (f : ℕ → ℕ). f from) counts in
                   omega (arith, most, same);
             }

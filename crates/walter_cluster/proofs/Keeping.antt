@@ -10,6 +10,7 @@ use Rattle.walter_base.proofs.NameTests.{same_site_refl}
 use Rattle.walter_base.specs.declared.names.SiteId.{SiteId}
 use Rattle.walter_cell.specs.Cells.{CellValue}
 use Rattle.walter_cell.specs.Cells as cell
+use Rattle.walter_cell.specs.Nodes.{capacity_of}
 use Rattle.walter_disk.specs.declared.disk.Disk.{Ghosts}
 use Rattle.walter_lane.specs.Lanes.{Sending, Receiving}
 use Rattle.walter_lane.specs.Rings.{Ring}
@@ -191,6 +192,8 @@ module _ {D : Type 0} (g : Ghosts D) where
     of_each t homes is = record {
       sites = all.long ∙ is.sites;
       catalogs = kept_each old.cells new.cells all (λ i c. c.node.catalog ≡ t.catalog) (λ i a b kept was. kept.node.catalog ∙ was) is.catalogs;
+      capacities = kept_each old.cells new.cells all (λ i c. capacity_of c.node.layout ≡ t.capacity)
+          (λ i a b kept was. ap capacity_of kept.node.layout ∙ was) is.capacities;
       homes = homes ∙ is.homes;
     }
 

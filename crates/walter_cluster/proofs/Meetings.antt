@@ -7,7 +7,7 @@ use Rattle.walter_cell.specs.Cells.{CellValue, HaveMet}
 use Rattle.walter_cell.specs.Cells as cell
 use Rattle.walter_machine.specs.Comings.{IsSized}
 use Rattle.walter_cell.specs.Lines.{IsLineAt, is_here}
-use Rattle.walter_cell.specs.Nodes.{NodeValue, IsSound, arms_under, is_told, places_in}
+use Rattle.walter_cell.specs.Nodes.{NodeValue, IsSound, arms_under, calls_under, is_told, places_in}
 use Rattle.walter_cell.specs.Written.{AreWrittenAt}
 use Rattle.walter_disk.specs.declared.disk.Disk.{Ghosts}
 use Rattle.walter_lane.specs.Lanes.{Sending, Receiving}
@@ -18,7 +18,7 @@ use Rattle.walter_rules.specs.declared.entry.Entry.{Entry}
 use Rattle.walter_rules.specs.Knowledge.{site_at}
 use Rattle.walter_rules.specs.Merges.{put_out_to, trail_of}
 use Rattle.walter_trail.specs.Calls.{calls_of}
-use Rattle.walter_cluster.specs.Benches.{trails_of, outs_at, ins_at, arms_at, EachKeeps}
+use Rattle.walter_cluster.specs.Benches.{trails_of, outs_at, ins_at, arms_at, calls_at, EachKeeps}
 use Rattle.walter_cluster.specs.Meetings.{put_at, arrived_at, met_at, HaveLanes, HaveAllMet, HasStayed, HaveStayed, HasArrived, IsAsBefore}
 use Rattle.walter_cluster.specs.Moments.{trail_at}
 use Rattle.walter_cluster.proofs.Becoming.{become_self, become_on, become_same}
@@ -95,6 +95,11 @@ module _ {D : Type 0} where
     arms_stay g i =
         become_same HasStayed old new stay (λ (c : CellValue D). arms_under g c.node.disk) (λ arms. arms) None
         (λ a b is. ap (λ (n : NodeValue D). arms_under g n.disk) is.node) i
+
+    pub calls_stay : (g : Ghosts D) (i : ℕ) → calls_at g new i ≡ calls_at g old i
+    calls_stay g i =
+        become_same HasStayed old new stay (λ (c : CellValue D). calls_under g c.node.disk) (λ n. n) 0
+        (λ a b is. ap (λ (n : NodeValue D). calls_under g n.disk) is.node) i
 
     pub each_stays : (g : Ghosts D) → EachKeeps g old new
     each_stays g = record { long = stay.long; each = λ i a b at is. stayed_keeps g a b (stay.each i a b at is) }

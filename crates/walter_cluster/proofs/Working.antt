@@ -166,7 +166,7 @@ module _ {D : Type 0} (g : Ghosts D) (t : Scenario) (i : SiteId) where
           (takes_on _ t i a.node.trail p (pumps.counts_in a.ins) is.pump_site is.working))
           (λ so. sym (ap (λ S. S.up) (standing_as a p is)) ∙ up so)
           (works_so _ _ _ _ _ _ _ _ _ q answer
-          (λ first move taken moves. hands_as first.from first.number (length a.ins) (clock_in a.node) (arrival a.ins first.from first.number) a.node.trail b.node.trail move moves)
+          (λ first move taken moves. hands_as first.from first.number (length a.ins) (clock_in a.node) (arrival a.ins first.from first.number) a.node.trail b.node.trail move moves.moves)
           (λ event act acts. acts_as event (clock_in a.node) a.node.trail b.node.trail act acts) (λ same. same)
           (λ least one so. subst (λ (S : Standing). IsLeastEnabled t.catalog i S.knows least) (standing_as a p is)
           (subst (λ (c : Catalog). IsLeastEnabled c i (standing_of a.node).knows least) is.catalog

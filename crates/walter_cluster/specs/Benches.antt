@@ -8,9 +8,10 @@ use Rattle.walter_cell.specs.Builds.{IsOfCapacity}
 use Rattle.walter_cell.specs.Cells.{CellValue}
 use Rattle.walter_cell.specs.Cells as cell
 use Rattle.walter_cell.specs.Lines.{LineValue, is_here, IsLineAt}
-use Rattle.walter_cell.specs.Nodes.{arms_under, is_told, places_in}
+use Rattle.walter_cell.specs.Nodes.{arms_under, calls_under, capacity_of, is_told, places_in}
 use Rattle.walter_cell.specs.Written.{AreWrittenAt}
 use Rattle.walter_checkpoint.specs.Areas.{Shape, shape_by}
+use Rattle.walter_disk.specs.Disks.{Arming}
 use Rattle.walter_disk.specs.declared.disk.Disk.{Ghosts}
 use Rattle.walter_engine.specs.Begins.{IsLaidOver}
 use Rattle.walter_engine.specs.Engines.{layout_for}
@@ -101,10 +102,11 @@ module _ {D : Type 0} where
 
   -- ---- a bench of a scenario
 
-  -- its sites and its clients are the scenario's
+  -- its sites and its clients are the scenario's, and so is how many bytes a journal has at most
   pub record IsOf (t : Scenario) (bench : BenchValue D) : Type 0 where
     pub sites : length bench.cells ≡ t.catalog.sites
     pub catalogs : AtEach bench.cells (λ i c. c.node.catalog ≡ t.catalog)
+    pub capacities : AtEach bench.cells (λ i c. capacity_of c.node.layout ≡ t.capacity)
     pub homes : bench.homes ≡ map (λ (client : Client). client.site) t.clients
 
   -- each site's trail has had memory for as many entries as the scenario asks for
@@ -131,8 +133,12 @@ module _ {D : Type 0} where
 
   module _ (g : Ghosts D) where
     -- the arms of a site's disk, where it tells them
-    abbrev pub arms_at : List (CellValue D) → ℕ → Option (List (ℕ × ℕ))
+    abbrev pub arms_at : List (CellValue D) → ℕ → Option (List Arming)
     arms_at cells i = slice_index_or (map (λ (c : CellValue D). arms_under g c.node.disk) cells) i None
+
+    -- how many calls of it were made that an arm counts
+    abbrev pub calls_at : List (CellValue D) → ℕ → ℕ
+    calls_at cells i = slice_index_or (map (λ (c : CellValue D). calls_under g c.node.disk) cells) i 0
 
     -- the disk of a site tells what it holds
     abbrev pub IsToldAt : ℕ → BenchValue D → Type 0

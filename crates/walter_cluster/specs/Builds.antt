@@ -1,5 +1,6 @@
 -- What the building of a bench comes to, and what closing it gives.
 use Rattle.std.specs.Prelude.{◌≡◌, ◌<◌, ◌≤◌, ℕ, List, [], length, map, slice_get, Option, Some, IfSome, Result, Ok, Err}
+use Rattle.walter_cell.specs.Builds.{calls_once_begun}
 use Rattle.walter_cell.specs.Cells.{CellValue}
 use Rattle.walter_cell.specs.Lines.{LineValue, IsLine}
 use Rattle.walter_cell.specs.Written.{AreWritten}
@@ -35,7 +36,12 @@ module _ {D : Type 0} (g : Ghosts D) (t : Scenario) where
     pub faults : (g.known disk).faults ≤ (g.known now).faults
     pub arms : (g.known now).arms ≡ (g.known disk).arms
 
-  -- where all sites begin, no record stood on the disk of any
+  -- where all sites begin, so many calls of each disk were made then
+  abbrev pub AreCallsOnceBegun : List D → (ℕ → ℕ) → Type 0
+  AreCallsOnceBegun disks calls = (i : ℕ) (disk : D) → slice_get disks i ≡ Some disk
+      → calls i ≡ calls_once_begun g (shape_of t) t.areas disk
+
+  -- and no record stood on the disk of any
   abbrev pub HadNoRecords : List D → Type 0
   HadNoRecords disks = (i : ℕ) (disk : D) (bytes : List ℕ) → slice_get disks i ≡ Some disk → HasOnly g bytes disk
       → HasNoRecord (shape_of t) bytes

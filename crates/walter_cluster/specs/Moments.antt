@@ -1,6 +1,6 @@
--- What the trails of all sites are at a moment, how many packets have arrived and how the disks are armed, and what an event
--- makes of it.
-use Rattle.std.specs.Prelude.{◌≡◌, ◌≢◌, ◌⊎◌, ◌+◌, ◌∷◌, ◌++◌, max, ℕ, zero, suc, List, [], length, replicate, reverse, slice_get, Option, Some, None, option_map, IfSome}
+-- What the trails of all sites are at a moment, how many packets have arrived, how the disks are armed and how many calls of
+-- them were made; and what an event makes of it.
+use Rattle.std.specs.Prelude.{◌≡◌, ◌≢◌, ◌⊎◌, ◌+◌, ◌∷◌, max, ℕ, zero, suc, List, [], length, replicate, reverse, slice_get, Option, Some, None, IfSome}
 use Rattle.walter_base.specs.declared.catalog.Catalog.{Catalog}
 use Rattle.walter_base.specs.declared.names.SiteId.{SiteId}
 use Rattle.walter_cell.specs.declared.answers.Acted.{Acted}
@@ -9,7 +9,8 @@ use Rattle.walter_cell.specs.declared.answers.Moved.TheVariants as moved
 use Rattle.walter_cell.specs.declared.answers.Serve.{Serve}
 use Rattle.walter_cell.specs.Cells.{CellValue, TurnsTo, Acts}
 use Rattle.walter_cell.specs.Entries.{IsSpent, HasPlace, Grows}
-use Rattle.walter_cell.specs.Nodes.{MayDrop}
+use Rattle.walter_cell.specs.Nodes.{MayCall, MayDrop, capacity_of}
+use Rattle.walter_disk.specs.Disks.{Arming, and_arming}
 use Rattle.walter_disk.specs.declared.disk.Disk.{Ghosts}
 use Rattle.walter_outbox.specs.Lanes.{arrived_from}
 use Rattle.walter_rules.specs.declared.entry.Entry.{Entry}
@@ -18,20 +19,22 @@ use Rattle.walter_rules.specs.declared.event.Event.TheVariants as event
 use Rattle.walter_rules.specs.declared.event.Input.TheVariants as input
 use Rattle.walter_rules.specs.Merges.{Stamped, put_out_to, trail_of}
 use Rattle.walter_rules.specs.Trails.{clock, opening}
-use Rattle.walter_cluster.specs.Benches.{BenchValue, AreMet, IsToldAt, trails_of, ins_at, arms_at}
+use Rattle.walter_cluster.specs.Benches.{BenchValue, AreMet, IsToldAt, trails_of, ins_at, arms_at, calls_at}
 
--- the trails of all sites, in order; how many packets have arrived at a site from another; and the calls of `arm` at each
--- site's disk, in order, where the disk tells them
+-- the trails of all sites, in order; how many packets have arrived at a site from another; and of each site's disk the calls
+-- of `arm`, in order, where it tells them, and how many calls that these count were made
 pub record Moment : Type 0 where
   pub trails : List (List Entry)
   pub arrived : (to from : ℕ) → ℕ
-  pub arms : ℕ → Option (List (ℕ × ℕ))
+  pub arms : ℕ → Option (List Arming)
+  pub calls : ℕ → ℕ
 
 abbrev pub moment_of : {D : Type 0} → Ghosts D → List (CellValue D) → Moment
 moment_of g cells = record {
   trails = trails_of cells;
   arrived = λ to from. length (arrived_from (ins_at cells to) from);
   arms = arms_at g cells;
+  calls = calls_at g cells;
 }
 
 -- before the first step: each trail has its opening alone, nothing has arrived, and no disk was armed
@@ -50,11 +53,12 @@ clock_at m i = clock (reverse (trail_of m.trails i))
 abbrev pub KeepsArms : (old new : Moment) → Type 0
 KeepsArms old new = (i : ℕ) → new.arms i ≡ old.arms i
 
--- no trail but that of one site changes, and no disk is armed
+-- no trail but that of one site changes, no call is made of the other sites' disks, and no disk is armed
 pub record ChangesAt (i : SiteId) (old new : Moment) : Type 0 where
   pub sites : length new.trails ≡ length old.trails
   pub others : (j : SiteId) → j ≢ i → trail_of new.trails j ≡ trail_of old.trails j
   pub arms : KeepsArms old new
+  pub calls : (j : ℕ) → j ≢ i.0 → new.calls j ≡ old.calls j
 
 -- no packet arrives
 abbrev pub NoneArrive : (old new : Moment) → Type 0
@@ -72,6 +76,11 @@ abbrev pub DropsAt : Catalog → SiteId → (old new : Moment) → Type 0
 DropsAt catalog i old new =
     MayDrop catalog i (λ k. old.arrived k i.0) (trail_of old.trails i) (trail_of new.trails i)
 
+-- the calls of a site's disk are those of the entry that comes to its trail, where its journal has so many bytes at most
+abbrev pub CallsAt : ℕ → Catalog → SiteId → (old new : Moment) → Type 0
+CallsAt capacity catalog i old new =
+    MayCall capacity catalog i (trail_of old.trails i) (trail_of new.trails i) (old.calls i.0) (new.calls i.0)
+
 -- the trail of a site
 abbrev pub trail_at : {D : Type 0} → List (CellValue D) → SiteId
     → List Entry
@@ -83,6 +92,13 @@ abbrev pub Drops : {D : Type 0} → Ghosts D → SiteId
 Drops {D = D} g i old new =
     AreMet old → IsToldAt g i.0 old → (c : CellValue D) → slice_get old.cells i.0 ≡ Some c
     → DropsAt c.node.catalog i (moment_of g old.cells) (moment_of g new.cells)
+
+-- so it is with the calls of the site's disk, where that tells what it holds
+abbrev pub CallsDisk : {D : Type 0} → Ghosts D → SiteId
+    → (old new : BenchValue D) → Type 0
+CallsDisk {D = D} g i old new =
+    IsToldAt g i.0 old → (c : CellValue D) → slice_get old.cells i.0 ≡ Some c
+    → CallsAt (capacity_of c.node.layout) c.node.catalog i (moment_of g old.cells) (moment_of g new.cells)
 
 -- ---- what calls of a bench come to
 
@@ -128,9 +144,11 @@ pub data MovesAt (to from : SiteId) (number : ℕ) (old new : Moment) : Moved �
       (trail_of new.trails to) answer
       → MovesAt to from number old new answer
 
--- the disk of a site is armed once more, behind what it was armed before, where it tells that; nothing else changes
+-- the disk of a site is armed once more, behind what it was armed before, where it tells that, and after so many calls as were
+-- made of it; nothing else changes
 pub record ArmsAt (i : SiteId) (nth choice : ℕ) (old new : Moment) : Type 0 where
-  pub here : new.arms i.0 ≡ option_map (λ arms. arms ++ (nth, choice) ∷ []) (old.arms i.0)
+  pub here : new.arms i.0 ≡ and_arming (record { at = old.calls i.0; nth = nth; choice = choice }) (old.arms i.0)
   pub others : (j : ℕ) → j ≢ i.0 → new.arms j ≡ old.arms j
+  pub calls : (j : ℕ) → new.calls j ≡ old.calls j
   pub trails : new.trails ≡ old.trails
   pub none_arrive : NoneArrive old new

@@ -6,6 +6,7 @@ use Rattle.walter_cell.specs.Cells.{CellValue}
 use Rattle.walter_cell.specs.Lines.{is_here, IsLineAt}
 use Rattle.walter_cell.specs.Nodes.{arms_under, is_told, places_in}
 use Rattle.walter_cell.specs.Written.{AreWrittenAt}
+use Rattle.walter_disk.specs.Disks.{Arming}
 use Rattle.walter_disk.specs.declared.disk.Disk.{Ghosts}
 use Rattle.walter_link.specs.Pumps.{PumpValue, taken_from}
 use Rattle.walter_outbox.specs.Lanes.{arrived_from, in_rings, out_rings}
@@ -21,7 +22,7 @@ use Rattle.walter_cluster.specs.Pumps.{ArePumps}
 pub record Origin : Type 0 where
   pub cell : CellValue (Unit {0})
   pub told : Bool
-  pub arms : Option (List (ℕ × ℕ))
+  pub arms : Option (List Arming)
   pub scenario : Scenario
 
 -- a cell without its disk

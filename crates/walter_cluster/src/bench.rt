@@ -7,6 +7,7 @@ ghost use Rattle.walter_cell.specs.Cells.{CellValue};
 ghost use Rattle.walter_cell.specs.Entries.{IsPlain};
 ghost use Rattle.walter_cell.specs.Lines.{CanFail, HasFaultAt, IsLineAt, NextIsWrite};
 ghost use Rattle.walter_cell.specs.Nodes.{is_told};
+ghost use Rattle.walter_cell.specs.Pumps.{TakesSome};
 ghost use Rattle.walter_cluster.specs.Meetings.{HasArrived, HasGathered};
 ghost use Rattle.walter_cluster.specs.Pumps.{IsPumpAt, PumpsAt};
 ghost use Rattle.walter_cluster.specs.Turns.{ServesAtHome};
@@ -14,7 +15,7 @@ ghost use Rattle.walter_rules.specs.Layouts.{header_of};
 ghost use Rattle.walter_rules.specs.declared.event.Event.TheVariants as event;
 ghost use Rattle.walter_rules.specs.declared.event.Input.TheVariants as input;
 ghost use Rattle.walter_trail.specs.Calls.{calls_of};
-ghost use Rattle.walter_cluster.specs.Moments.{moment_of, trail_at, KeepsArms, TurnsAt, ActsAt, MovesAt, ArmsAt, Drops};
+ghost use Rattle.walter_cluster.specs.Moments.{moment_of, trail_at, KeepsArms, TurnsAt, ActsAt, MovesAt, ArmsAt, CallsDisk, Drops};
 
 use crate::meeting::meet_all;
 use std::alloc::Global;
@@ -91,6 +92,8 @@ impl<D: Disk + Drop, S: Source + Drop, K: Sink + Drop> Bench<D, S, K> {
             (moment_of D.Disk self.old.cells) (moment_of D.Disk self.new.cells)) }
         ensures drops { (home : SiteId) → slice_get self.old.homes number ≡ Some home
             → Drops D.Disk home self.old self.new }
+        ensures calls { (home : SiteId) → slice_get self.old.homes number ≡ Some home
+            → CallsDisk D.Disk home self.old self.new }
         ensures kept { OnErr result (trails_of self.new.cells ≡ trails_of self.old.cells) }
         // Where the trail there has memory for the entry, only the bytes of a Write may want more.
         ensures roomy { OnErr result ((home : SiteId) (c : CellValue D) → slice_get self.old.homes number ≡ Some home
@@ -111,6 +114,7 @@ impl<D: Disk + Drop, S: Source + Drop, K: Sink + Drop> Bench<D, S, K> {
         ensures moves { IfOk result (MovesAt to from number (moment_of D.Disk self.old.cells)
             (moment_of D.Disk self.new.cells)) }
         ensures drops { Drops D.Disk to self.old self.new }
+        ensures calls { CallsDisk D.Disk to self.old self.new }
         ensures kept { OnErr result (trails_of self.new.cells ≡ trails_of self.old.cells) }
         ensures arms { KeepsArms (moment_of D.Disk self.old.cells) (moment_of D.Disk self.new.cells) }
     {
@@ -139,6 +143,7 @@ impl<D: Disk + Drop, S: Source + Drop, K: Sink + Drop> Bench<D, S, K> {
         ensures acts { IfOk result (ActsAt at (event.Given (input.Advance from)) (moment_of D.Disk self.old.cells)
             (moment_of D.Disk self.new.cells)) }
         ensures drops { Drops D.Disk at self.old self.new }
+        ensures calls { CallsDisk D.Disk at self.old self.new }
         ensures kept { OnErr result (trails_of self.new.cells ≡ trails_of self.old.cells) }
         ensures arms { KeepsArms (moment_of D.Disk self.old.cells) (moment_of D.Disk self.new.cells) }
         ensures roomy { (c : CellValue D) → slice_get self.old.cells at.0 ≡ Some c → 0 < c.node.room → IsOk result }
@@ -153,6 +158,7 @@ impl<D: Disk + Drop, S: Source + Drop, K: Sink + Drop> Bench<D, S, K> {
         ensures acts { IfOk result (ActsAt site (event.Given input.Tick) (moment_of D.Disk self.old.cells)
             (moment_of D.Disk self.new.cells)) }
         ensures drops { Drops D.Disk site self.old self.new }
+        ensures calls { CallsDisk D.Disk site self.old self.new }
         ensures kept { OnErr result (trails_of self.new.cells ≡ trails_of self.old.cells) }
         ensures arms { KeepsArms (moment_of D.Disk self.old.cells) (moment_of D.Disk self.new.cells) }
         ensures roomy { (c : CellValue D) → slice_get self.old.cells site.0 ≡ Some c → 0 < c.node.room → IsOk result }
@@ -167,6 +173,7 @@ impl<D: Disk + Drop, S: Source + Drop, K: Sink + Drop> Bench<D, S, K> {
         ensures acts { IfOk result (ActsAt site (event.Given input.Upgrade) (moment_of D.Disk self.old.cells)
             (moment_of D.Disk self.new.cells)) }
         ensures drops { Drops D.Disk site self.old self.new }
+        ensures calls { CallsDisk D.Disk site self.old self.new }
         ensures kept { OnErr result (trails_of self.new.cells ≡ trails_of self.old.cells) }
         ensures arms { KeepsArms (moment_of D.Disk self.old.cells) (moment_of D.Disk self.new.cells) }
         ensures roomy { (c : CellValue D) → slice_get self.old.cells site.0 ≡ Some c → 0 < c.node.room → IsOk result }
@@ -181,6 +188,7 @@ impl<D: Disk + Drop, S: Source + Drop, K: Sink + Drop> Bench<D, S, K> {
         ensures acts { IfOk result (ActsAt site event.Stop (moment_of D.Disk self.old.cells)
             (moment_of D.Disk self.new.cells)) }
         ensures drops { Drops D.Disk site self.old self.new }
+        ensures calls { CallsDisk D.Disk site self.old self.new }
         ensures kept { OnErr result (trails_of self.new.cells ≡ trails_of self.old.cells) }
         ensures arms { KeepsArms (moment_of D.Disk self.old.cells) (moment_of D.Disk self.new.cells) }
         ensures roomy { (c : CellValue D) → slice_get self.old.cells site.0 ≡ Some c → 0 < c.node.room → IsOk result }
@@ -195,6 +203,7 @@ impl<D: Disk + Drop, S: Source + Drop, K: Sink + Drop> Bench<D, S, K> {
         ensures acts { IfOk result (ActsAt site event.Restart (moment_of D.Disk self.old.cells)
             (moment_of D.Disk self.new.cells)) }
         ensures drops { Drops D.Disk site self.old self.new }
+        ensures calls { CallsDisk D.Disk site self.old self.new }
         ensures kept { OnErr result (trails_of self.new.cells ≡ trails_of self.old.cells) }
         ensures arms { KeepsArms (moment_of D.Disk self.old.cells) (moment_of D.Disk self.new.cells) }
         ensures roomy { (c : CellValue D) → slice_get self.old.cells site.0 ≡ Some c → 0 < c.node.room → IsOk result }
@@ -214,7 +223,11 @@ impl<D: Disk + Drop, S: Source + Drop, K: Sink + Drop> Bench<D, S, K> {
             → IfOk result (PumpsAt (is_told D.Disk c.node.disk ≡ true) c.node.catalog site
             (moment_of D.Disk self.old.cells) (moment_of D.Disk self.new.cells) pump.old pump.new) }
         ensures pump { IsPumpAt self.new.cells site pump.new }
+        // Where memory runs out, of the first so many sites all that has arrived was taken, and nothing else.
+        ensures taken { OnErr result (TakesSome site ((moment_of D.Disk self.new.cells).arrived site.0)
+            pump.old pump.new) }
         ensures drops { Drops D.Disk site self.old self.new }
+        ensures calls { CallsDisk D.Disk site self.old self.new }
         ensures kept { OnErr result (trails_of self.new.cells ≡ trails_of self.old.cells) }
         ensures arms { KeepsArms (moment_of D.Disk self.old.cells) (moment_of D.Disk self.new.cells) }
     {
@@ -237,6 +250,7 @@ impl<D: Disk + Drop, S: Source + Drop, K: Sink + Drop> Bench<D, S, K> {
         ensures acts { IfOk result (ActsAt site event (moment_of D.Disk self.old.cells)
             (moment_of D.Disk self.new.cells)) }
         ensures drops { Drops D.Disk site self.old self.new }
+        ensures calls { CallsDisk D.Disk site self.old self.new }
         ensures kept { OnErr result (trails_of self.new.cells ≡ trails_of self.old.cells) }
         ensures arms { KeepsArms (moment_of D.Disk self.old.cells) (moment_of D.Disk self.new.cells) }
         ensures roomy { (c : CellValue D) → slice_get self.old.cells site.0 ≡ Some c → 0 < c.node.room → IsOk result }

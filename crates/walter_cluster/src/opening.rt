@@ -4,10 +4,10 @@ ghost use Rattle.walter_base.specs.Sizes.{most_in};
 ghost use Rattle.walter_scenario.specs.declared.scenario.Client.{Client};
 ghost use Rattle.walter_cell.specs.Lines.{LineValue};
 ghost use Rattle.walter_checkpoint.specs.Loads.{IsAreas};
-ghost use Rattle.walter_cluster.specs.Benches.{IsOf, IsToldAt, AreRoomy, AreAllConnected, AreAllAnswered, AreMet, disks_of};
+ghost use Rattle.walter_cluster.specs.Benches.{IsOf, IsToldAt, AreRoomy, AreAllConnected, AreAllAnswered, AreMet, calls_at, disks_of};
 ghost use Rattle.walter_cluster.specs.Lanes.{rows_in, columns_in};
 ghost use Rattle.walter_cluster.specs.Seats.{lists_in};
-ghost use Rattle.walter_cluster.specs.Builds.{AreUnread, AreUnwritten, AreUnarmed, LeavesDisks, HadNoRecords, AreLaid, IsWhyNone};
+ghost use Rattle.walter_cluster.specs.Builds.{AreUnread, AreUnwritten, AreUnarmed, AreCallsOnceBegun, LeavesDisks, HadNoRecords, AreLaid, IsWhyNone};
 ghost use Rattle.walter_cluster.specs.Moments.{IsFirst, moment_of};
 ghost use Rattle.walter_cluster.specs.Openings.{HasPlaces, ArePrepared, IsBegunBench};
 
@@ -78,6 +78,8 @@ pub fn build<D: Disk + Drop, S: Source + Drop, K: Sink + Drop>(
     ensures met { IfOk result AreMet }
     ensures first { AreUnarmed D.Disk disks.items
         → IfOk result (λ bench. IsFirst scenario.now.catalog.sites (moment_of D.Disk bench.cells)) }
+    ensures calls { IfOk result (λ bench.
+        AreCallsOnceBegun D.Disk scenario.now disks.items (calls_at D.Disk bench.cells)) }
     ensures leaves { LeavesDisks D.Disk scenario.now disks.items result }
     ensures had_none { OnOk result (HadNoRecords D.Disk scenario.now disks.items) }
     ensures laid { IfOk result (λ bench. AreLaid D.Disk scenario.now disks.items bench.cells) }

@@ -1,6 +1,17 @@
 -- A disk as the store sees it. Bytes that a write has put there are safe from a crash only behind a sync; after a fault
 -- the disk fails each call until it has settled.
-use Rattle.std.specs.Prelude.{◌≡◌, ◌+◌, ◌<◌, ◌≤◌, ℕ, max, Bool, true, List, ◌++◌, length, take, drop, Option, option_map, is_some}
+use Rattle.std.specs.Prelude.{◌≡◌, ◌+◌, ◌<◌, ◌≤◌, ℕ, max, Bool, true, List, [], ◌∷◌, ◌++◌, length, take, drop, Option, option_map, is_some}
+
+-- A call of `arm`: how many calls of the device had been made before it, which of those behind it is to fail, counted
+-- from 1, and the choice of what a settle then finds.
+pub record Arming : Type 0 where
+  pub at : ℕ
+  pub nth : ℕ
+  pub choice : ℕ
+
+-- what the caller asked for
+abbrev pub asked : Arming → ℕ × ℕ
+asked arming = (arming.nth, arming.choice)
 
 -- what is known of a disk, but for crashes
 pub record DiskState : Type 0 where
@@ -11,7 +22,15 @@ pub record DiskState : Type 0 where
   pub broken : Bool
   pub faults : ℕ
   -- the calls of `arm`, in order, where the disk tells them
-  pub arms : Option (List (ℕ × ℕ))
+  pub arms : Option (List Arming)
+
+-- these arms with one more behind them, where they are told
+abbrev pub and_arming : Arming → Option (List Arming) → Option (List Arming)
+and_arming arming arms = option_map (λ told. told ++ arming ∷ []) arms
+
+-- the disk armed once more, after so many calls of its device
+abbrev pub armed_at : (calls nth choice : ℕ) → DiskState → DiskState
+armed_at calls nth choice disk = record disk { arms = and_arming (record { at = calls; nth = nth; choice = choice }) disk.arms }
 
 -- the bytes with others laid over them at a place
 abbrev pub laid : ℕ → List ℕ → List ℕ → List ℕ

@@ -1,6 +1,6 @@
 //! What the store asks of a disk: a trait.
-ghost use Rattle.std.specs.Prelude.{◌≡◌, ◌+◌, ◌<◌, ◌≤◌, ◌++◌, [], ◌∷◌, ℕ, List, length, take, drop, false, true, IsSome, option_map, is_some, IfSome, OnOk, OnErr, Err};
-ghost use Rattle.walter_disk.specs.Disks.{DiskState, written, Breaks, MakesRoom, TakesRoom};
+ghost use Rattle.std.specs.Prelude.{◌≡◌, ◌+◌, ◌<◌, ◌≤◌, ℕ, List, length, take, drop, false, is_some, IfSome, OnOk, OnErr};
+ghost use Rattle.walter_disk.specs.Disks.{DiskState, armed_at, written, Breaks, MakesRoom, TakesRoom};
 ghost use Rattle.walter_disk.specs.Images.{Torn, Follows, Narrows, IsDurable, IsImage, Elapses};
 
 use crate::fault::{Failed, Mem};
@@ -92,10 +92,11 @@ pub trait Disk {
         ensures time { Elapses (moment self.old) (moment self.new) (left_since self.old) (left_since self.new) (may_leave self.new) };
 
     /// Has the `nth` of the following reads, writes and syncs fail, where the disk can be told so, counted from 1; the
-    /// choice says what the next `settle` finds. It changes no content.
+    /// choice says what the next `settle` finds. The arm is told with the number of calls made so far. It changes no
+    /// content.
     fn arm(&mut self, nth: u64, choice: u64) -> Mem<()>
         requires { 0 < nth }
-        ensures armed { OnOk result (known self.new ≡ record (known self.old) { arms = option_map (λ arms. arms ++ (nth, choice) ∷ []) (known self.old).arms }) }
+        ensures armed { OnOk result (known self.new ≡ armed_at (device_calls self.old) nth choice (known self.old)) }
         ensures same { OnErr result (known self.new ≡ known self.old) }
         ensures room { TakesRoom 0 (room_end self.old) (room_end self.new) (room_calls self.old) (room_calls self.new) }
         ensures device { device_calls self.new ≡ device_calls self.old }

@@ -16,6 +16,9 @@ pub trait Rack {
     /// The disk that is taken for a folder, if one is named, and a site, where the rack tells it.
     ghost disks: { Self → Option (Option (List ℕ) → ℕ → Self.D) };
 
+    /// The path of the folder that its disks lie in where no other is named, if they lie in one.
+    ghost folder: { Self → Option (List ℕ) };
+
     /// How many disks were taken.
     ghost taken: { Self → ℕ };
 
@@ -35,6 +38,7 @@ pub trait Rack {
             IfSome (disks self.old) (λ told. disk ≡ told (option_copied dir.entry) site)) }
         ensures fresh { IfOk result (λ disk. IsFresh (Self.D.known disk) (Self.D.may_leave disk)) }
         ensures same_disks { disks self.new ≡ disks self.old }
+        ensures same_folder { folder self.new ≡ folder self.old }
         ensures taken { OnOk result (taken self.new ≡ taken self.old + 1) }
         ensures same_taken { OnErr result (taken self.new ≡ taken self.old) }
         ensures same_given { given self.new ≡ given self.old }
@@ -51,6 +55,7 @@ pub trait Rack {
         ensures handed { handed self.new ≡ option_map (λ told. told ++ (site, disk) ∷ []) (handed self.old) }
         ensures same_taken { taken self.new ≡ taken self.old }
         ensures same_disks { disks self.new ≡ disks self.old }
+        ensures same_folder { folder self.new ≡ folder self.old }
         ensures faultless { OnOk result (faults self.new ≡ faults self.old) }
         ensures sure { 0 < unfailing self.old → IsOk result × (unfailing self.old ≤ unfailing self.new + 1) }
         ensures cause { OnErr result (faults self.old < faults self.new) };

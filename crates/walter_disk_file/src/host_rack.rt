@@ -127,6 +127,8 @@ impl<X: Files<File = File> + Drop> Rack for HostRack<X> {
 
     ghost disks = { disks_of };
 
+    ghost folder = { λ r. r.folder };
+
     ghost taken = { λ r. r.taken };
 
     ghost given = { λ r. Some r.given };

@@ -1,6 +1,7 @@
 -- How the logic stores the calls of a disk, and disks with their sites.
 use Rattle.std.specs.Prelude.{◌≡◌, ◌==◌, ℕ, List, [], Option, refl, if◌then◌else◌}
 use Rattle.std.specs.Coded.{Coded, code_by, coded×, coded_ℕ, coded_list, coded_option}
+use Rattle.walter_disk.specs.Disks.{Arming}
 use Rattle.walter_disk_memory.specs.Contents.{Call, Write, FailedWrite, Sync, Settle}
 use Rattle.walter_disk_memory.specs.MemoryDisks.{MemoryState}
 use Rattle.walter_disk_memory.specs.Stops.{Stops}
@@ -30,10 +31,15 @@ from_parts-to_parts (Settle choice) = refl
 abbrev pub calls_code : Coded (List Call)
 calls_code = coded_list (code_by Parts (coded× coded_ℕ (coded× coded_ℕ (coded_list coded_ℕ))) to_parts from_parts from_parts-to_parts)
 
+abbrev arming_code : Coded Arming
+arming_code =
+    code_by (ℕ × (ℕ × ℕ)) (coded× coded_ℕ (coded× coded_ℕ coded_ℕ))
+    (λ a. (a.at, (a.nth, a.choice))) (λ p. record { at = p.0; nth = p.1.0; choice = p.1.1 }) (λ _. refl)
+
 abbrev stops_code : Coded Stops
 stops_code =
-    code_by (List (ℕ × ℕ) × (Option (ℕ × ℕ) × (Option ℕ × (ℕ × ℕ))))
-    (coded× (coded_list (coded× coded_ℕ coded_ℕ))
+    code_by (List Arming × (Option (ℕ × ℕ) × (Option ℕ × (ℕ × ℕ))))
+    (coded× (coded_list arming_code)
     (coded× (coded_option (coded× coded_ℕ coded_ℕ)) (coded× (coded_option coded_ℕ) (coded× coded_ℕ coded_ℕ))))
     (λ s. (s.arms, (s.due, (s.came, (s.made, s.faults)))))
     (λ p. record { arms = p.0; due = p.1.0; came = p.1.1.0; made = p.1.1.1.0; faults = p.1.1.1.1 }) (λ _. refl)

@@ -1,9 +1,9 @@
 -- Calls that fail: from the call on that an arm has named, until the disk has settled.
 use Rattle.std.specs.Prelude.{◌≡◌, ◌+◌, ◌-◌, ◌==◌, ◌||◌, ℕ, Bool, false, List, [], ◌∷◌, ◌++◌, Option, Some, None, is_some, unwrap_or, if◌then◌else◌}
+use Rattle.walter_disk.specs.Disks.{Arming}
 
 pub record Stops : Type 0 where
-  -- each arm: which of the calls behind it fails, counted from 1, and its choice
-  pub arms : List (ℕ × ℕ)
+  pub arms : List Arming
   -- the arm that is to come: in how many calls, and its choice
   pub due : Option (ℕ × ℕ)
   -- the choice of the arm that came, where the disk is broken
@@ -50,7 +50,10 @@ failed stops = record stops {
 
 -- armed once more: a later arm takes the place of one that is to come
 abbrev pub armed : ℕ → ℕ → Stops → Stops
-armed nth choice stops = record stops { arms = stops.arms ++ (nth, choice) ∷ []; due = Some (nth, choice) }
+armed nth choice stops = record stops {
+  arms = stops.arms ++ record { at = stops.made; nth = nth; choice = choice } ∷ [];
+  due = Some (nth, choice);
+}
 
 -- the choice by which a settle goes, 0 where no arm came
 abbrev pub choice_made : Stops → ℕ

@@ -156,8 +156,8 @@ pub fn unarmed_never_failed(disk: &MemoryDisk)
 }
 
 impl Disk for MemoryDisk {
-    ghost use Rattle.std.specs.Prelude.{◌++◌, ◌∷◌, refl, false, is_some, option_map};
-    ghost use Rattle.walter_disk.specs.Disks.{written, Breaks, MakesRoom, TakesRoom};
+    ghost use Rattle.std.specs.Prelude.{refl, false, is_some};
+    ghost use Rattle.walter_disk.specs.Disks.{armed_at, written, Breaks, MakesRoom, TakesRoom};
     ghost use Rattle.walter_disk.specs.Images.{Torn, Follows, Narrows, IsDurable, IsImage};
     ghost use Rattle.walter_disk_memory.specs.ImageLaws.{always_sound, left_now, left_only_now};
     ghost use Rattle.walter_disk_memory.specs.MemoryDisks.{known_of, moment_of, may_leave_of, left_since_of, GoesOn};
@@ -296,9 +296,8 @@ impl Disk for MemoryDisk {
 
     fn arm(&mut self, nth: u64, choice: u64) -> Mem<()>
         requires { 0 < nth }
-        ensures armed { OnOk result (known_of self.new ≡ record (known_of self.old) {
-          arms = option_map (λ arms. arms ++ (nth, choice) ∷ []) (known_of self.old).arms;
-        }) }
+        ensures armed { OnOk result (
+            known_of self.new ≡ armed_at self.old.stops.made nth choice (known_of self.old)) }
         ensures same { OnErr result (known_of self.new ≡ known_of self.old) }
         ensures room { TakesRoom 0
             self.old.room_end self.new.room_end self.old.room_calls self.new.room_calls }

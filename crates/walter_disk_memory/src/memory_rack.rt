@@ -118,13 +118,15 @@ impl MemoryRack {
 impl Rack for MemoryRack {
     type D = MemoryDisk;
 
-    ghost use Rattle.std.specs.Prelude.{Some};
+    ghost use Rattle.std.specs.Prelude.{None, Some};
     ghost use Rattle.walter_disk.specs.Racks.{IsFresh};
     ghost use Rattle.walter_disk_memory.specs.MemoryDisks.{known_of, may_leave_of};
 
     ghost faults = { λ r. r.schedule.faults };
 
     ghost disks = { λ r. Some (λ dir site. disk_of r.contents site) };
+
+    ghost folder = { λ _. None };
 
     ghost taken = { λ r. r.taken };
 

@@ -7,10 +7,26 @@ use std::marker::Model;
 use walter_disk::{Failed, Mem};
 use walter_faults::GhostCount;
 
+/// An arm, as it was laid.
+#[derive(Drop)]
+pub(crate) struct Laid {
+    at: GhostCount,
+    nth: u64,
+    choice: u64,
+}
+
+impl Model for Laid {
+    ghost use Rattle.walter_disk.specs.Disks.{Arming};
+
+    ghost Value = { Arming };
+
+    ghost view = { λ a. record { at = a.at.count; nth = a.nth; choice = a.choice } };
+}
+
 /// Which calls fail.
 #[derive(Drop)]
 pub(crate) struct Stops {
-    arms: Vec<(u64, u64)>,
+    arms: Vec<Laid>,
     due: Option<(u64, u64)>,
     came: Option<u64>,
     made: GhostCount,
@@ -88,7 +104,8 @@ impl Stops {
         ensures ok { OnOk result (self.new ≡ armed nth choice self.old) }
         ensures err { OnErr result (self.new ≡ self.old) }
     {
-        self.arms.push((nth, choice))?;
+        let at = self.made.same();
+        self.arms.push(Laid { at, nth, choice })?;
         self.due = Some((nth, choice));
         Ok(())
     }

@@ -98,7 +98,7 @@ comes_of header catalog i left bodies ready format over wrote outcome (inr (inr 
     let named : Some full.rec ≡ Some (Boot ((replayed catalog i fresh over.records).epoch + 1)) = sym full.is ∙ over.boots in
     let same : full.rec ≡ Boot ((replayed catalog i fresh over.records).epoch + 1) = cc in
     subst (λ (o : Outcome). ComesOf header catalog i left bodies wrote None o) (sym full.outcome_is)
-    (over.records, over.tell, subst (λ (r : Record). left < need_of format r) same full.less)
+    (over.records, over.tell, subst (λ (r : Record). left < need_of format r) same full.less, ap (need_of format) same, refl)
 
 -- and of those behind which none is
 pub comes_hindered : (header : Format) (catalog : Catalog) (i : SiteId) (left : ℕ) (bodies : List (List ℕ)) (wrote : Option Record)

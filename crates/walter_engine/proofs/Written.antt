@@ -196,7 +196,7 @@ unrefused format catalog i site event ready left outcome anyway (inr (inl is)) =
 unrefused format catalog i site event ready left outcome anyway (inr (inr (inl is))) =
     ap is_refusal is.1 ∙ (failure_is event is.0).1
 unrefused format catalog i site event ready left outcome anyway (inr (inr (inr is))) =
-    ap is_refusal is.outcome_is ∙ (fullness_is event is.need is.free).1
+    ap is_refusal is.outcome_is ∙ (fullness_is event (need_of format is.rec) left).1
 
 -- ---- the parts of what came
 

@@ -24,12 +24,13 @@ use Rattle.walter_rules.specs.Layouts.{Layout, one_area, two_areas, header_of}
 use Rattle.walter_rules.specs.Records.{replayed}
 
 -- what comes of bodies, where so many bytes are left: they spell records that can follow each other, and the next epoch
--- is written behind these, or finds no place; or it is refused for what they are; or a fault or want of memory comes first
+-- is written behind these, or its 10 bytes find no place; or it is refused for what they are; or a fault or want of memory
+-- comes first
 abbrev pub ComesOf : Format → Catalog → SiteId → ℕ → List (List ℕ) → Option Record → Option RefusedRestart → Outcome → Type 0
 ComesOf header catalog i left bodies wrote why Taken = (records : List Record) × Tell header catalog i bodies records
     × (wrote ≡ Some (Boot ((replayed catalog i fresh records).epoch + 1)))
 ComesOf header catalog i left bodies wrote why (Full need free) =
-    (records : List Record) × Tell header catalog i bodies records × (left < 10)
+    (records : List Record) × Tell header catalog i bodies records × (left < 10) × (need ≡ 10) × (free ≡ left)
 ComesOf header catalog i left bodies wrote why Refused =
     (cause : RefusedRestart) × (why ≡ Some cause) × IsRefusedOver header catalog i bodies cause
 ComesOf header catalog i left bodies wrote why Failed = why ≡ None

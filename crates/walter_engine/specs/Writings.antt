@@ -54,11 +54,9 @@ HasRoomIfAny book (Some body) = HasRoomBehind book (length body)
 -- what comes of a record that needs more than is left
 pub record IsOverflow (format : Format) (event : Event) (ready : Ready) (left : ℕ) (outcome : Outcome) : Type 0 where
   pub rec : Record
-  pub need : ℕ
-  pub free : ℕ
   pub is : rec_in ready ≡ Some rec
   pub less : left < need_of format rec
-  pub outcome_is : outcome ≡ fullness event need free
+  pub outcome_is : outcome ≡ fullness event (need_of format rec) left
 
 -- What comes of what is ready, where so many bytes are left: what is to come; or memory ran out, or its record met a
 -- fault or found no place.

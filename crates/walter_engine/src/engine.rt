@@ -1,7 +1,8 @@
 //! A site with its disk: events come to it, and what they bring is journaled.
-ghost use Rattle.std.specs.Prelude.{◌≡◌, ◌≢◌, ◌+◌, ◌<◌, ◌≤◌, ℕ, List, ◌++◌, ◌∷◌, [], true, false, not, None, Some, map, is_ok, is_some, IsSome, IfSome, IfOk, IfErr, OnOk, OnErr, option_map};
+ghost use Rattle.std.specs.Prelude.{◌≡◌, ◌≢◌, ◌+◌, ◌<◌, ◌≤◌, ℕ, List, ◌∷◌, [], true, false, not, None, Some, map, is_ok, is_some, IsSome, IfSome, IfOk, IfErr, OnOk, OnErr};
 ghost use Rattle.walter_base.specs.Sizes.{most_in};
 ghost use Rattle.walter_checkpoint.specs.Loads.{IsAreas};
+ghost use Rattle.walter_disk.specs.Disks.{armed_at};
 ghost use Rattle.walter_engine.specs.Props.{props};
 ghost use Rattle.walter_engine.specs.Stores.{header_under};
 ghost use Rattle.walter_machine.specs.Machines.{is_up as is_up_machine, catalog_in as machine_catalog};
@@ -165,8 +166,8 @@ impl<D: Disk + Drop> Engine<D> {
     /// Does to the disk what `Disk::arm` does.
     pub fn arm(&mut self, nth: u64, choice: u64) -> Mem<()>
         requires { 0 < nth }
-        ensures armed { OnOk result (OfDisks self.old self.new (λ old new. D.known new
-            ≡ record (D.known old) { arms = option_map (λ arms. arms ++ (nth, choice) ∷ []) (D.known old).arms })) }
+        ensures armed { OnOk result (OfDisks self.old self.new (λ old new.
+            D.known new ≡ armed_at (D.device_calls old) nth choice (D.known old))) }
         ensures same { OnErr result (OfDisks self.old self.new (λ old new. D.known new ≡ D.known old)) }
         ensures device { OfDisks self.old self.new (λ old new. D.device_calls new ≡ D.device_calls old) }
         ensures engine { IsSameEngine self.old self.new }

@@ -1,6 +1,7 @@
 //! Where the records of a site lie: in the book of one that is up, or on the bare disk of one that is down.
-ghost use Rattle.std.specs.Prelude.{◌≡◌, ◌<◌, ◌++◌, ◌∷◌, [], true, false, not, Some, None, is_some, option_map, IfSome, OnOk, OnErr};
+ghost use Rattle.std.specs.Prelude.{◌≡◌, ◌<◌, true, false, not, Some, None, is_some, IfSome, OnOk, OnErr};
 ghost use Rattle.walter_base.specs.declared.format.Format.{Format as Header};
+ghost use Rattle.walter_disk.specs.Disks.{armed_at};
 ghost use Rattle.walter_engine.specs.Stores.{book_if, disk_if, disk_under, header_under, IsStored};
 ghost use Rattle.walter_rules.specs.Layouts.{Layout};
 ghost use Rattle.walter_rules.specs.Standing.{Standing};
@@ -54,8 +55,8 @@ pub(crate) fn arm<D: Disk>(
     requires place { 0 < nth }
     requires there { is_some (disk_under book.old disk.old) ≡ true }
     ensures armed { OnOk result (IfSome (disk_under book.old disk.old) (λ old.
-        IfSome (disk_under book.new disk.new) (λ new. D.known new
-        ≡ record (D.known old) { arms = option_map (λ arms. arms ++ (nth, choice) ∷ []) (D.known old).arms }))) }
+        IfSome (disk_under book.new disk.new) (λ new.
+        D.known new ≡ armed_at (D.device_calls old) nth choice (D.known old)))) }
     ensures same { OnErr result (IfSome (disk_under book.old disk.old) (λ old.
         IfSome (disk_under book.new disk.new) (λ new. D.known new ≡ D.known old))) }
     ensures device { IfSome (disk_under book.old disk.old) (λ old.

@@ -25,6 +25,13 @@ impl GhostCount {
         GhostCount {}
     }
 
+    /// The same count once more.
+    pub fn same(&self) -> GhostCount
+        ensures { result.count ≡ self.now.count }
+    {
+        GhostCount {}
+    }
+
     /// One more. What keeps a count puts this in its place, so that it never falls.
     pub fn next(&self) -> GhostCount
         ensures { result.count ≡ self.now.count + 1 }

@@ -1,6 +1,6 @@
 //! A journal on a disk: bodies are appended to it.
 ghost use Rattle.std.specs.Prelude.{◌≡◌, ◌+◌, ◌-◌, ◌<◌, ◌≤◌, ◌++◌, ◌∷◌, [], ℕ, List, length, min, is_some, option_map, vec_capacity, true, false, Err, OnOk, OnErr};
-ghost use Rattle.walter_disk.specs.Disks.{written, Breaks, Fails, MakesRoom, TakesRoom};
+ghost use Rattle.walter_disk.specs.Disks.{armed_at, written, Breaks, Fails, MakesRoom, TakesRoom};
 ghost use Rattle.walter_disk.specs.Images.{Torn, Only, IsDurable, Follows, Narrows, Elapses, LeavesOnly};
 ghost use Rattle.walter_journal.specs.Zeros.{zeros as zeros_of, filled_disk, writes_of, Grows, HasGrown};
 ghost use Rattle.walter_journal.specs.Layout.{record_of, IsBehindOrOneMore};
@@ -59,10 +59,8 @@ impl<D: Disk> Journal<D> {
     /// Does to the disk what `Disk::arm` does.
     pub fn arm(&mut self, nth: u64, choice: u64) -> Mem<()>
         requires { 0 < nth }
-        ensures armed { let old = D.known (disk_of self.old) in
-            OnOk result (D.known (disk_of self.new) ≡ record old {
-              arms = option_map (λ arms. arms ++ (nth, choice) ∷ []) old.arms;
-            }) }
+        ensures armed { let old = disk_of self.old in
+            OnOk result (D.known (disk_of self.new) ≡ armed_at (D.device_calls old) nth choice (D.known old)) }
         ensures same { OnErr result (D.known (disk_of self.new) ≡ D.known (disk_of self.old)) }
         ensures capacity { capacity_of self.new ≡ capacity_of self.old }
         ensures end { end_of self.new ≡ end_of self.old }

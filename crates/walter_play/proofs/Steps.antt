@@ -12,10 +12,11 @@ use Rattle.walter_base.specs.declared.catalog.Catalog.{Catalog}
 use Rattle.walter_base.specs.declared.names.SiteId.{SiteId}
 use Rattle.walter_cell.specs.Cells.{CellValue, TurnsTo}
 use Rattle.walter_cell.specs.Lines.{LineValue, IsLineAt}
+use Rattle.walter_cell.specs.Nodes.{capacity_of}
 use Rattle.walter_cell.specs.declared.answers.Serve.{Serve}
 use Rattle.walter_cell.specs.declared.answers.Serve.TheVariants as serve
 use Rattle.walter_cluster.specs.Benches.{BenchValue, Keeps, IsOf, AreMet, AreAllConnected, IsToldAt, lines_at}
-use Rattle.walter_cluster.specs.Moments.{Moment, TurnsAt, Drops, DropsAt, moment_of, trail_at}
+use Rattle.walter_cluster.specs.Moments.{Moment, TurnsAt, CallsAt, CallsDisk, Drops, DropsAt, moment_of, trail_at}
 use Rattle.walter_cluster.proofs.Changes.{there_is, one_there, field_at, set_here, set_there}
 use Rattle.walter_cluster.proofs.Keeping.{pump_kept}
 use Rattle.walter_rules.specs.Knowledge.{site_at}
@@ -60,20 +61,21 @@ plain_told told fewer t (step.Call number) old new so takes = record {
   there = takes.there;
   answer = takes.answer;
   turns = takes.turns;
+  calls = λ is. takes.calls (so _ is);
   drops = λ is. takes.drops (so _ is);
 }
 plain_told told fewer t (step.Deliver to from number) old new so takes =
-    record { answer = takes.answer; moves = takes.moves; drops = λ is. takes.drops (so _ is) }
+    record { answer = takes.answer; moves = takes.moves; calls = λ is. takes.calls (so _ is); drops = λ is. takes.drops (so _ is) }
 plain_told told fewer t (step.Advance at from) old new so takes =
-    record { answer = takes.answer; acts = takes.acts; drops = λ is. takes.drops (so _ is) }
+    record { answer = takes.answer; acts = takes.acts; calls = λ is. takes.calls (so _ is); drops = λ is. takes.drops (so _ is) }
 plain_told told fewer t (step.Tick site) old new so takes =
-    record { answer = takes.answer; acts = takes.acts; drops = λ is. takes.drops (so _ is) }
+    record { answer = takes.answer; acts = takes.acts; calls = λ is. takes.calls (so _ is); drops = λ is. takes.drops (so _ is) }
 plain_told told fewer t (step.Upgrade site) old new so takes =
-    record { answer = takes.answer; acts = takes.acts; drops = λ is. takes.drops (so _ is) }
+    record { answer = takes.answer; acts = takes.acts; calls = λ is. takes.calls (so _ is); drops = λ is. takes.drops (so _ is) }
 plain_told told fewer t (step.Stop site) old new so takes =
-    record { answer = takes.answer; acts = takes.acts; drops = λ is. takes.drops (so _ is) }
+    record { answer = takes.answer; acts = takes.acts; calls = λ is. takes.calls (so _ is); drops = λ is. takes.drops (so _ is) }
 plain_told told fewer t (step.Restart site) old new so takes =
-    record { answer = takes.answer; acts = takes.acts; drops = λ is. takes.drops (so _ is) }
+    record { answer = takes.answer; acts = takes.acts; calls = λ is. takes.calls (so _ is); drops = λ is. takes.drops (so _ is) }
 plain_told told fewer t (step.Arm arm) old new so takes = takes
 plain_told told fewer t (step.Pump site) old new so takes = takes
 
@@ -97,6 +99,7 @@ takes_as_told told fewer t one (Some site) old new so takes = record {
   now = takes.now;
   answer = takes.answer;
   pumps = pumps_told (told site.0) (fewer site.0) t.catalog site old.moment new.moment takes.before takes.after takes.answer (so site.0) takes.pumps;
+  calls = λ is. takes.calls (so _ is);
   drops = λ is. takes.drops (so _ is);
 }
 
@@ -181,6 +184,16 @@ drops_of g t old new i is met site drops told =
     let long = is.sites in
     let c = there_is old.cells i.0 (omega (arith, site, long)) in
     subst (λ (k : Catalog). DropsAt k i (moment_of g old.cells) (moment_of g new.cells)) (is.catalogs i.0 c.0 c.1) (drops met told c.0 c.1)
+
+-- the calls of the disk of a site that is one of the scenario's
+pub disk_calls_of : {D : Type 0} (g : Ghosts D) (t : Scenario) (old new : BenchValue D) (i : SiteId) → IsOf t old → i.0 < t.catalog.sites
+    → CallsDisk g i old new → IsToldAt g i.0 old → CallsAt t.capacity t.catalog i (moment_of g old.cells) (moment_of g new.cells)
+disk_calls_of g t old new i is site calls told =
+    let long = is.sites in
+    let c = there_is old.cells i.0 (omega (arith, site, long)) in
+    subst (λ n. CallsAt n t.catalog i (moment_of g old.cells) (moment_of g new.cells)) (is.capacities i.0 c.0 c.1)
+    (subst (λ (k : Catalog). CallsAt (capacity_of c.0.node.layout) k i (moment_of g old.cells) (moment_of g new.cells)) (is.catalogs i.0 c.0 c.1)
+    (calls told c.0 c.1))
 
 -- a step that isn't a pump leaves what waits
 pub takes_plain : (told : ℕ → Type 0) (t : Scenario) (one : Step) (old new : Scene) → site_pumped one ≡ None

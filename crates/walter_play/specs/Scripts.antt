@@ -6,13 +6,14 @@ use Rattle.walter_cell.specs.declared.answers.Moved.{Moved}
 use Rattle.walter_cell.specs.declared.answers.Pumped.{Pumped}
 use Rattle.walter_cell.specs.declared.answers.Serve.{Serve}
 use Rattle.walter_cell.specs.Cells.{CellValue}
-use Rattle.walter_cluster.specs.Moments.{Moment, moment_of, IsFirst, DropsAt, TurnsAt, ActsAt, MovesAt, ArmsAt}
+use Rattle.walter_cluster.specs.Moments.{Moment, moment_of, IsFirst, CallsAt, DropsAt, TurnsAt, ActsAt, MovesAt, ArmsAt}
 use Rattle.walter_cluster.specs.Pumps.{PumpsAt, new_pumps}
 use Rattle.walter_link.specs.Pumps.{PumpValue}
 use Rattle.walter_rules.specs.declared.entry.Entry.{Entry}
 use Rattle.walter_rules.specs.declared.event.Event.{Event}
 use Rattle.walter_rules.specs.declared.event.Event.TheVariants as event
 use Rattle.walter_rules.specs.declared.event.Input.TheVariants as input
+use Rattle.walter_disk.specs.Disks.{Arming, asked}
 use Rattle.walter_disk.specs.declared.disk.Disk.{Ghosts}
 use Rattle.walter_scenario.specs.declared.scenario.Arm.{Arm}
 use Rattle.walter_scenario.specs.declared.scenario.Client.{Client}
@@ -33,12 +34,14 @@ pub record IsFirstScene (t : Scenario) (scene : Scene) : Type 0 where
   pub moment : IsFirst t.catalog.sites scene.moment
   pub pumps : scene.pumps ≡ new_pumps t
 
--- ---- steps. Of a site that is told, that is whose disk tells what it holds, it is said what it drops.
+-- ---- steps. Of a site that is told, that is whose disk tells what it holds, it is said what it drops, and how many calls it
+-- makes of its disk.
 
 -- an event that brings nothing comes to a site
 pub record IsEventAt (told : ℕ → Type 0) (t : Scenario) (i : SiteId) (happens : Event) (old new : Moment) : Type 0 where
   pub answer : Acted
   pub acts : ActsAt i happens old new answer
+  pub calls : told i.0 → CallsAt t.capacity t.catalog i old new
   pub drops : told i.0 → DropsAt t.catalog i old new
 
 -- the turn of a client, whose connection doesn't fail
@@ -47,6 +50,7 @@ pub record IsTurn (told : ℕ → Type 0) (t : Scenario) (number : ℕ) (old new
   pub there : slice_get t.clients number ≡ Some client
   pub answer : Serve
   pub turns : TurnsAt client.site number client.bytes ⊥ old new answer
+  pub calls : told client.site.0 → CallsAt t.capacity t.catalog client.site old new
   pub drops : told client.site.0 → DropsAt t.catalog client.site old new
 
 -- the packet of a number comes to a site from another
@@ -54,6 +58,7 @@ pub record IsDelivery (told : ℕ → Type 0) (t : Scenario) (to from : SiteId) 
     (old new : Moment) : Type 0 where
   pub answer : Moved
   pub moves : MovesAt to from number old new answer
+  pub calls : told to.0 → CallsAt t.capacity t.catalog to old new
   pub drops : told to.0 → DropsAt t.catalog to old new
 
 -- a site does what is next there, by what waits there and what has arrived
@@ -64,6 +69,7 @@ pub record IsPumping (told : ℕ → Type 0) (t : Scenario) (i : SiteId) (old ne
   pub now : new.pumps ≡ set old.pumps i.0 after
   pub answer : Pumped
   pub pumps : PumpsAt (told i.0) t.catalog i old.moment new.moment before after answer
+  pub calls : told i.0 → CallsAt t.capacity t.catalog i old.moment new.moment
   pub drops : told i.0 → DropsAt t.catalog i old.moment new.moment
 
 -- what a step is but for a pump
@@ -111,12 +117,13 @@ abbrev pub EndsPlay : (told : ℕ → Type 0) → Scenario → (old new : Moment
 EndsPlay told t old new = (pumps : List PumpValue) × Plays told t (all_steps t)
     (record { moment = old; pumps = new_pumps t }) (record { moment = new; pumps = pumps })
 
--- so the trails of a run come of the openings, and the arms of the disks of none
-pub record IsPlayed (told : ℕ → Type 0) (t : Scenario) (trails : List (List Entry))
-    (arms : ℕ → Option (List (ℕ × ℕ))) : Type 0 where
+-- so the trails of a run come of the openings, and the arms of the disks of none, of which so many calls had been made
+pub record IsPlayed (told : ℕ → Type 0) (t : Scenario) (calls : ℕ → ℕ) (trails : List (List Entry))
+    (arms : ℕ → Option (List Arming)) : Type 0 where
   pub first : Scene
   pub last : Scene
   pub begins : IsFirstScene t first
+  pub calls_are : (i : ℕ) → first.moment.calls i ≡ calls i
   pub plays : Plays told t (all_steps t) first last
   pub ends : last.moment.trails ≡ trails
   pub arms_are : (i : ℕ) → last.moment.arms i ≡ arms i
@@ -146,9 +153,19 @@ arms_of steps = flat_map arms_by steps
 abbrev pub all_arms : Scenario → ℕ → List (ℕ × ℕ)
 all_arms t i = arms_for i (t.arms ++ arms_of t.steps)
 
--- the arms of each disk are these behind those from before, where it tells them
+-- the arms of each disk are those from before and behind them what these ask for, where it tells them
 abbrev pub AreArmed : (old new : Moment) → List Arm → Type 0
-AreArmed old new arms = (i : ℕ) → new.arms i ≡ option_map (λ told. told ++ arms_for i arms) (old.arms i)
+AreArmed old new arms = (i : ℕ) → (laid : List Arming) × (map asked laid ≡ arms_for i arms)
+    × (new.arms i ≡ option_map (λ told. told ++ laid) (old.arms i))
+
+-- what is asked for, laid after so many calls of the disk
+abbrev pub laid_after : ℕ → ℕ × ℕ → Arming
+laid_after calls arm = record { at = calls; nth = arm.0; choice = arm.1 }
+
+-- so they are, and no call of the disks came before any of them
+abbrev pub AreArmedFirst : (old new : Moment) → List Arm → Type 0
+AreArmedFirst old new arms = (i : ℕ)
+    → new.arms i ≡ option_map (λ told. told ++ map (laid_after (old.calls i)) (arms_for i arms)) (old.arms i)
 
 -- they are the first ones of these
 abbrev pub ArmsMore : (old new : Moment) → List Arm → Type 0

@@ -38,6 +38,8 @@ impl Rack for KeepingRack {
 
     ghost disks = { λ _. None };
 
+    ghost folder = { λ _. None };
+
     ghost taken = { λ r. r.taken.count };
 
     ghost given = { λ _. None };

@@ -5,7 +5,7 @@ ghost use Rattle.walter_cell.specs.Lines.{CanFail};
 ghost use Rattle.walter_cluster.specs.Benches.{AreAllConnected, EachKeeps, IsOf, IsToldAt, Keeps, trails_of};
 ghost use Rattle.walter_cluster.specs.Moments.{IsFirst, KeepsArms, moment_of};
 ghost use Rattle.walter_cluster.specs.Shared.{CanWork, origins_of};
-ghost use Rattle.walter_play.specs.Scripts.{AreArmed, ArmsMore};
+ghost use Rattle.walter_play.specs.Scripts.{AreArmedFirst, ArmsMore};
 ghost use Rattle.walter_scenario.specs.Parts.{IsArm, IsThreads};
 ghost use Rattle.walter_work.specs.Driven.{IsDriven};
 
@@ -66,7 +66,7 @@ pub fn run<
     // Of a site whose disk tells what it holds also what came to it in which order, and that it is up at the end.
     ensures driven { OnOk result.1 (IsDriven (λ i. IsToldAt D.Disk i bench) (CanFail S.Source K.Sink) scenario.now
         (trails_of result.0.cells)) }
-    ensures armed { OnOk result.1 (AreArmed (moment_of D.Disk bench.cells) (moment_of D.Disk result.0.cells)
+    ensures armed { OnOk result.1 (AreArmedFirst (moment_of D.Disk bench.cells) (moment_of D.Disk result.0.cells)
         scenario.now.arms) }
     // Where memory runs out, the disks are armed by the first arms.
     ensures arms { ArmsMore (moment_of D.Disk bench.cells) (moment_of D.Disk result.0.cells) scenario.now.arms }
@@ -94,7 +94,7 @@ fn arm_all<D: Disk + Drop, S: Source + Drop, K: Sink + Drop>(
     requires arms { All (IsArm scenario.now.catalog.sites) scenario.now.arms }
     ensures keeps { Keeps D.Disk bench.old bench.new }
     ensures trails { trails_of bench.new.cells ≡ trails_of bench.old.cells }
-    ensures armed { OnOk result (AreArmed (moment_of D.Disk bench.old.cells) (moment_of D.Disk bench.new.cells)
+    ensures armed { OnOk result (AreArmedFirst (moment_of D.Disk bench.old.cells) (moment_of D.Disk bench.new.cells)
         scenario.now.arms) }
     ensures arms { ArmsMore (moment_of D.Disk bench.old.cells) (moment_of D.Disk bench.new.cells) scenario.now.arms }
 {

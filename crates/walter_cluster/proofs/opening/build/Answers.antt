@@ -1,12 +1,12 @@
 use Rattle.std.proofs.Common.{◌∙◌}
 use Rattle.std.proofs.lemmas.Result.{IfOk-weaker}
-use Rattle.walter_cluster.specs.Benches.{BenchValue, IsOf, IsToldAt, AreRoomy, AreAllConnected, AreAllAnswered, AreMet}
-use Rattle.walter_cluster.specs.Builds.{HadNoRecords, AreLaid}
+use Rattle.walter_cluster.specs.Benches.{BenchValue, IsOf, IsToldAt, AreRoomy, AreAllConnected, AreAllAnswered, AreMet, calls_at}
+use Rattle.walter_cluster.specs.Builds.{HadNoRecords, AreCallsOnceBegun, AreLaid}
 use Rattle.walter_cluster.specs.Lanes.{rows_in, columns_in}
 use Rattle.walter_cluster.specs.Moments.{IsFirst, moment_of}
 use Rattle.walter_cluster.specs.Openings.{IsBegunBench}
 use Rattle.walter_cluster.specs.Seats.{lists_in}
-use Rattle.walter_cluster.proofs.Built.{of_built, told_built, roomy_built, connected_built, answered_built, met_built, first_built, none_had_built, laid_built}
+use Rattle.walter_cluster.proofs.Built.{of_built, told_built, roomy_built, connected_built, answered_built, met_built, first_built, calls_built, none_had_built, laid_built}
 use Rattle.walter_cluster.proofs.opening.build.Goals as goal
 
 pub returns-clause-of : goal.returns-clause-of
@@ -97,6 +97,19 @@ returns-clause-first g c unarmed =
     let ready = c.in-Ok.ensures in
     IfOk-weaker c.begin_all.result (IsBegunBench g.D.Disk t disks rows columns lists parts.homes.items) (λ (bench : BenchValue g.row.D.Denot). IsFirst t.catalog.sites (moment_of g.D.Disk bench.cells))
     (λ (bench : BenchValue g.row.D.Denot) begun. first_built g.D.Disk t disks rows columns lists bench.cells begun.begun c.requires.disks ready.joined unarmed)
+    c.begin_all.ensures.begun
+
+pub returns-clause-calls : goal.returns-clause-calls
+returns-clause-calls g c =
+    let t = c.args.scenario.now in
+    let parts = c.in-Ok.parts in
+    let disks = c.args.disks.items in
+    let rows = rows_in parts.rows.items in
+    let columns = columns_in parts.columns.items in
+    let lists = lists_in parts.lists.items in
+    IfOk-weaker c.begin_all.result (IsBegunBench g.D.Disk t disks rows columns lists parts.homes.items)
+    (λ (bench : BenchValue g.row.D.Denot). AreCallsOnceBegun g.D.Disk t disks (calls_at g.D.Disk bench.cells))
+    (λ (bench : BenchValue g.row.D.Denot) begun. calls_built g.D.Disk t disks rows columns lists bench.cells begun.begun c.requires.disks)
     c.begin_all.ensures.begun
 
 pub returns-clause-had_none : goal.returns-clause-had_none

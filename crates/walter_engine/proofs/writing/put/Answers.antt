@@ -19,7 +19,7 @@ use Rattle.walter_machine.specs.Readiness.{rec_in}
 use Rattle.walter_packet.specs.Framed.{frame_of}
 use Rattle.walter_rules.specs.Calls.{Expected}
 use Rattle.walter_record.specs.Spelling.{record_spelled, FitsFormat}
-use Rattle.walter_rules.specs.Layouts.{FitsIn, header_of}
+use Rattle.walter_rules.specs.Layouts.{FitsIn, header_of, need_of as need_by}
 use Rattle.walter_rules.specs.Trails.{only, failure, fullness}
 use Rattle.walter_rules.specs.Sending.{Send}
 use Rattle.walter_rules.specs.Standing.{up_after}
@@ -183,6 +183,9 @@ returns g c =
     let is = c.as_slice.ensures ∙ s.2.is in
     let full = full_is c.append.result (need_of c.as_slice.result.now) (left_of c.args.book.now) _ _ c.append.ensures.full c.append.ensures.failed c.in-Err-Full.field-0 c.in-Err-Full.need c.in-Err-Full.left c.in-Err-Full.is c.in-Err-Full.field-0-is in
     let came = c.overflow.ensures.came in
+    let fits = some_is (FitsFormat c.args.format) (rec_in c.args.ready.now) s.0 s.1
+    (fits_next c.args.format (catalog_in c.args.machine.now) (site_in c.args.machine.now) c.requires.anyway.S
+    (rec_in c.args.ready.now) c.requires.sites c.requires.anyway.ready_for.next) in
     record {
       comes = λ layout S standing counted ready_for at spelled kept.
           c.overflow.ensures.comes layout S ready_for (lacks_here (catalog_in c.args.machine.now) layout (site_in c.args.machine.now) (tables_in c.args.machine.now) S c.args.event.now c.args.ready.now ready_for s.0 s.1 {g = g.D.Disk}
@@ -200,15 +203,12 @@ returns g c =
           (brings (catalog_in c.args.machine.now) layout (site_in c.args.machine.now) (tables_in c.args.machine.now) S c.args.event.now c.args.ready.now ready_for s.0 s.1) (is ∙ ap (λ (f : Format). record_spelled f s.0) at) (c.append.ensures.any_moment _ kept.stands);
       outcome = inr (inr (inr (record {
         rec = s.0;
-        need = c.in-Err-Full.need;
-        free = c.in-Err-Full.left;
         is = s.1;
-        less =
-            let fits = some_is (FitsFormat c.args.format) (rec_in c.args.ready.now) s.0 s.1
-            (fits_next c.args.format (catalog_in c.args.machine.now) (site_in c.args.machine.now) c.requires.anyway.S
-            (rec_in c.args.ready.now) c.requires.sites c.requires.anyway.ready_for.next) in
-            omega (arith, full.0, ap length is, need_is c.args.format s.0 fits);
-        outcome_is = ap (λ (x : Came). x.outcome) came;
+        less = omega (arith, full.0, ap length is, need_is c.args.format s.0 fits);
+        outcome_is =
+            let need : c.in-Err-Full.need ≡ need_by c.args.format s.0 = omega (arith, full.1, ap length is, need_is c.args.format s.0 fits) in
+            ap (λ (x : Came). x.outcome) came
+            ∙ (ap (λ n. fullness c.args.event.now n c.in-Err-Full.left) need ∙ ap (λ n. fullness c.args.event.now (need_by c.args.format s.0) n) full.2);
       })));
       up = ap is_some c.overflow.ensures.tables
           ∙ sym (ap (λ (x : Came). up_after c.args.event.now x.outcome (is_up c.args.machine.now)) came ∙ (fullness_is c.args.event.now c.in-Err-Full.need c.in-Err-Full.left).3 (is_up c.args.machine.now));

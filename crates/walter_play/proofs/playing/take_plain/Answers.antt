@@ -6,7 +6,7 @@ use Rattle.walter_cluster.proofs.Benches.{on_err_so}
 use Rattle.walter_cluster.proofs.Changes.{there_is}
 use Rattle.walter_psi.proofs.Lists.{contains_at}
 use Rattle.walter_scenario.specs.declared.scenario.Client.{Client}
-use Rattle.walter_play.proofs.Steps.{turn_of, drops_of, turn_is}
+use Rattle.walter_play.proofs.Steps.{turn_of, disk_calls_of, drops_of, turn_is}
 use Rattle.walter_play.proofs.playing.take_plain.Goals as goal
 
 pub turn-requires : goal.turn-requires
@@ -37,6 +37,8 @@ returns-in_ok-turn-in-Call-clause-took g c =
       turns = turn_is client.0.site c.in-Call.client client.0.bytes _ _ _ c.in_ok-turn-in-Call.field-0
           (λ failed. elim failed.1 [ inl rose ↦ (let r = rose.1 in omega (arith, r)) | inr rose ↦ (let r = rose.1 in omega (arith, r)) ])
           (c.in_ok-turn-in-Call.ensures.turns client.0.site client.0.bytes turn.0 turn.1);
+      calls = disk_calls_of g.D.Disk t c.args.bench.now c.turn.new.self client.0.site c.requires.of site
+          (c.turn.ensures.calls client.0.site turn.0);
       drops = drops_of g.D.Disk t c.args.bench.now c.turn.new.self client.0.site c.requires.of c.requires.met site
           (c.turn.ensures.drops client.0.site turn.0);
     })
@@ -48,6 +50,8 @@ returns-in_ok-deliver-in-Deliver-clause-took g c =
     rw c.in-Deliver.is (record {
       answer = c.in_ok-deliver-in-Deliver.field-0;
       moves = c.in_ok-deliver-in-Deliver.ensures.moves;
+      calls = disk_calls_of g.D.Disk t c.args.bench.now c.deliver.new.self c.in-Deliver.to c.requires.of there.0.there
+          c.deliver.ensures.calls;
       drops = drops_of g.D.Disk t c.args.bench.now c.deliver.new.self c.in-Deliver.to c.requires.of c.requires.met there.0.there
           c.deliver.ensures.drops;
     })
@@ -59,6 +63,8 @@ returns-in_ok-advance-in-Advance-clause-took g c =
     rw c.in-Advance.is (record {
       answer = c.in_ok-advance-in-Advance.field-0;
       acts = c.in_ok-advance-in-Advance.ensures.acts;
+      calls = disk_calls_of g.D.Disk t c.args.bench.now c.advance.new.self c.in-Advance.at c.requires.of there.there
+          c.advance.ensures.calls;
       drops = drops_of g.D.Disk t c.args.bench.now c.advance.new.self c.in-Advance.at c.requires.of c.requires.met there.there
           c.advance.ensures.drops;
     })
@@ -70,6 +76,8 @@ returns-in_ok-tick-in-Tick-clause-took g c =
     rw c.in-Tick.is (record {
       answer = c.in_ok-tick-in-Tick.field-0;
       acts = c.in_ok-tick-in-Tick.ensures.acts;
+      calls = disk_calls_of g.D.Disk t c.args.bench.now c.tick.new.self c.in-Tick.site c.requires.of there
+          c.tick.ensures.calls;
       drops = drops_of g.D.Disk t c.args.bench.now c.tick.new.self c.in-Tick.site c.requires.of c.requires.met there
           c.tick.ensures.drops;
     })
@@ -81,6 +89,8 @@ returns-in_ok-upgrade-in-Upgrade-clause-took g c =
     rw c.in-Upgrade.is (record {
       answer = c.in_ok-upgrade-in-Upgrade.field-0;
       acts = c.in_ok-upgrade-in-Upgrade.ensures.acts;
+      calls = disk_calls_of g.D.Disk t c.args.bench.now c.upgrade.new.self c.in-Upgrade.site c.requires.of there
+          c.upgrade.ensures.calls;
       drops = drops_of g.D.Disk t c.args.bench.now c.upgrade.new.self c.in-Upgrade.site c.requires.of c.requires.met there
           c.upgrade.ensures.drops;
     })
@@ -92,6 +102,8 @@ returns-in_ok-stop-in-Stop-clause-took g c =
     rw c.in-Stop.is (record {
       answer = c.in_ok-stop-in-Stop.field-0;
       acts = c.in_ok-stop-in-Stop.ensures.acts;
+      calls = disk_calls_of g.D.Disk t c.args.bench.now c.stop.new.self c.in-Stop.site c.requires.of there
+          c.stop.ensures.calls;
       drops = drops_of g.D.Disk t c.args.bench.now c.stop.new.self c.in-Stop.site c.requires.of c.requires.met there
           c.stop.ensures.drops;
     })
@@ -103,6 +115,8 @@ returns-in_ok-restart-in-Restart-clause-took g c =
     rw c.in-Restart.is (record {
       answer = c.in_ok-restart-in-Restart.field-0;
       acts = c.in_ok-restart-in-Restart.ensures.acts;
+      calls = disk_calls_of g.D.Disk t c.args.bench.now c.restart.new.self c.in-Restart.site c.requires.of there
+          c.restart.ensures.calls;
       drops = drops_of g.D.Disk t c.args.bench.now c.restart.new.self c.in-Restart.site c.requires.of c.requires.met there
           c.restart.ensures.drops;
     })

@@ -9,7 +9,7 @@ use Rattle.walter_cluster.specs.Benches.{IsToldAt}
 use Rattle.walter_cluster.specs.Moments.{moment_of}
 use Rattle.walter_cluster.specs.Pumps.{PumpsAt}
 use Rattle.walter_play.specs.Scripts.{site_pumped}
-use Rattle.walter_play.proofs.Steps.{drops_of, pumps_told, takes_plain}
+use Rattle.walter_play.proofs.Steps.{disk_calls_of, drops_of, pumps_told, takes_plain}
 use Rattle.walter_play.proofs.playing.take_step.Goals as goal
 
 pub pump-requires-clause-pump : goal.pump-requires-clause-pump
@@ -55,6 +55,7 @@ returns-in_ok-pump-in-Pump-clause-took g c =
           (moment_of g.D.Disk new.cells) before after c.in_ok-pump-in-Pump.field-0 (λ told. told cell.0 cell.1)
           (subst (λ (k : Catalog). PumpsAt (is_told g.D.Disk cell.0.node.disk ≡ true) k site (moment_of g.D.Disk old.cells) (moment_of g.D.Disk new.cells)
           before after c.in_ok-pump-in-Pump.field-0) (c.requires.of.catalogs site.0 cell.0 cell.1) (c.in_ok-pump-in-Pump.ensures.pumps cell.0 cell.1));
+      calls = disk_calls_of g.D.Disk t old new site c.requires.of below c.pump.ensures.calls;
       drops = drops_of g.D.Disk t old new site c.requires.of c.requires.met below c.pump.ensures.drops;
     })
 

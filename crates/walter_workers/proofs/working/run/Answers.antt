@@ -2,9 +2,11 @@ use Rattle.std.proofs.Common.{List, sym, ◌∙◌, subst}
 use Rattle.std.proofs.lemmas.Result.{on_ok_weaker}
 use Rattle.walter_cell.specs.Lines.{CanFail}
 use Rattle.walter_cluster.specs.Benches.{IsToldAt, trails_of}
+use Rattle.walter_cluster.specs.Moments.{moment_of}
 use Rattle.walter_cluster.specs.Shared.{CanWork}
 use Rattle.walter_cluster.proofs.Keeping.{connected_each, connected_kept, each_on, of_kept, told_each}
 use Rattle.walter_link.specs.Pumps.{PumpValue}
+use Rattle.walter_play.proofs.Arming.{more_kept}
 use Rattle.walter_work.proofs.Driven.{driven_fewer}
 use Rattle.walter_workers.proofs.Beginning.{can_first}
 use Rattle.walter_workers.proofs.working.run.Goals as goal
@@ -46,3 +48,9 @@ returns-clause-driven g c =
     (driven_fewer (λ i. IsToldAt g.D.Disk i ended) (λ i. IsToldAt g.D.Disk i c.args.bench) fails fails
     (λ i told. told_each g.D.Disk c.args.bench ended all i told) (λ failed. failed) c.args.scenario.now (trails_of ended.cells))
     c.finish-finished.ensures.driven
+
+pub returns-clause-arms : goal.returns-clause-arms
+returns-clause-arms g c =
+    more_kept (moment_of g.D.Disk c.args.bench.cells) (moment_of g.D.Disk c.arm_all.new.bench.cells)
+    (moment_of g.D.Disk c.finish-finished.new.bench.cells) c.args.scenario.now.arms c.arm_all.ensures.arms
+    (λ i. c.finish-finished.ensures.arms i ∙ c.share_work-bench.ensures.arms i)

@@ -22,7 +22,7 @@ begins_back : {D M N : Type 0} (g : Ghosts D) (of_node : M → Option D) (of_cel
 begins_back g of_node of_cell shape areas disk (Ok x) back is begins = absurd is
 begins_back {D = D} {N = N} g of_node of_cell shape areas disk (Err e) back is begins =
     subst (λ (b : D × BeginFault). Begins g {N = N} of_cell shape areas disk (Err b)) (sym is)
-    (record { begins = begins.begins; leaves = begins.leaves; faults = begins.faults; arms = begins.arms })
+    (record { begins = begins.begins; leaves = begins.leaves; faults = begins.faults; calls = begins.calls; arms = begins.arms })
 
 pub returns-in_err-node-clause-begins : goal.returns-in_err-node-clause-begins
 returns-in_err-node-clause-begins g c =

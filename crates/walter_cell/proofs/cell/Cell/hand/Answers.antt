@@ -8,16 +8,16 @@ pub returns-in-Did-clause-works : goal.returns-in-Did-clause-works
 returns-in-Did-clause-works g c =
     let waiting = c.args.pump.now.waiting in
     hands c.args.first (drop 1 waiting) moved.Did (first_front waiting c.args.first c.requires.first) c.requires.taken
-    (rw c.in-Did.is at c.in_ok-deliver.ensures.moves) c.leave.ensures refl
+    (record { there = c.requires.there; moves = rw c.in-Did.is at c.in_ok-deliver.ensures.moves }) c.leave.ensures refl
 
 pub returns-in-Nothing-clause-works : goal.returns-in-Nothing-clause-works
 returns-in-Nothing-clause-works g c =
     let waiting = c.args.pump.now.waiting in
     hands c.args.first (drop 1 waiting) moved.Nothing (first_front waiting c.args.first c.requires.first) c.requires.taken
-    (rw c.in-Nothing.is at c.in_ok-deliver.ensures.moves) refl refl
+    (record { there = c.requires.there; moves = rw c.in-Nothing.is at c.in_ok-deliver.ensures.moves }) refl refl
 
 pub returns-in-Spent-clause-works : goal.returns-in-Spent-clause-works
 returns-in-Spent-clause-works g c =
     let waiting = c.args.pump.now.waiting in
     hands c.args.first (drop 1 waiting) moved.Spent (first_front waiting c.args.first c.requires.first) c.requires.taken
-    (rw c.in-Spent.is at c.in_ok-deliver.ensures.moves) refl refl
+    (record { there = c.requires.there; moves = rw c.in-Spent.is at c.in_ok-deliver.ensures.moves }) refl refl

@@ -1,5 +1,4 @@
-use Rattle.std.proofs.Common.{◌++◌, ◌∷◌, ◌-◌, ◌∙◌, [], ap, sym, subst, vec_capacity, vec_len}
-use Rattle.std.specs.Prelude.{option_map}
+use Rattle.std.proofs.Common.{◌-◌, ◌∙◌, ap, sym, subst, vec_capacity, vec_len}
 use Rattle.walter_engine.specs.Engines.{disk_in}
 use Rattle.walter_engine.specs.declared.engine.Engine.{Engine}
 use Rattle.walter_cell.specs.Nodes.{NodeParts, NodeValue, IsSameButDisk, IsWhole, seen}
@@ -18,7 +17,7 @@ invariant_of-self g c =
     let whole : IsWhole g.D.Disk lent = subst
     (λ (e : Engine g.row.D.Denot g.D.Disk). IsWhole g.D.Disk (record lent { engine = e })) (sym c.deref_mut.ensures.value) c.self.invariant in
     whole_over lent c.arm.new.self c.arm.ensures.engine c.arm.ensures.stands
-    (armed_or_not g.D.Disk c.arm.result (λ o. option_map (λ arms. arms ++ (c.args.nth, c.args.choice) ∷ []) o)
+    (armed_or_not g.D.Disk c.arm.result c.args.nth c.args.choice
     (disk_in c.deref_mut.result.now) (disk_in c.arm.new.self) c.arm.ensures.armed c.arm.ensures.same) whole
 
 pub returns-clause-same : goal.returns-clause-same

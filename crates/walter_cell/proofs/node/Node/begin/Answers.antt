@@ -13,9 +13,9 @@ use Rattle.walter_engine.specs.declared.engine.Engine.{Engine}
 use Rattle.walter_rules.specs.declared.entry.Entry.{Entry}
 use Rattle.walter_rules.specs.Layouts.{Layout}
 use Rattle.walter_rules.specs.Trails.{opening, standing}
-use Rattle.walter_cell.specs.Builds.{Begins, IsNewEngine, IsOfCapacity}
+use Rattle.walter_cell.specs.Builds.{Begins, IsNewEngine, IsOfCapacity, calls_once_begun}
 use Rattle.walter_cell.proofs.Nodes.{has_disk}
-use Rattle.walter_cell.proofs.Openings.{begins_by, has_place, known_built, layout_same, node_built, shape_same, to_found, told_here}
+use Rattle.walter_cell.proofs.Openings.{begins_by, calls_here, has_place, known_built, layout_same, node_built, shape_same, to_found, told_here}
 use Rattle.walter_cell.proofs.Wholes.{whole_of, reads_before}
 use Rattle.walter_cell.proofs.node.Node.begin.Goals as goal
 
@@ -60,6 +60,14 @@ module _ {D : Type 0} {g : Ghosts D} (catalog : Catalog) (capacity areas : ℕ) 
       subst (λ (l : Layout). IsLaidOver bytes l found) (layout_same areas _ _ _ _ _ _ capacity_is sites_are header_is)
       (subst (λ (n : ℕ). IsLaidOver bytes (layout_for n lent.capacity (catalog_in lent).sites lent.format) found) areas_are laid)
 
+  calls_as : (now : Option D)
+      → IfSome (disk_in lent) (λ x. IfSome now (λ y. g.device_calls y ≡ calls_once_begun g (shape_in lent) lent.areas x))
+      → IfSome (disk_in lent) (λ x. IfSome now (λ y. g.device_calls y ≡ calls_once_begun g (shape_by capacity catalog.sites header) areas x))
+  calls_as now calls =
+      subst (λ (s : Shape). IfSome (disk_in lent) (λ x. IfSome now (λ y. g.device_calls y ≡ calls_once_begun g s areas x)))
+      (shape_same _ _ _ _ _ _ capacity_is sites_are header_is)
+      (subst (λ (n : ℕ). IfSome (disk_in lent) (λ x. IfSome now (λ y. g.device_calls y ≡ calls_once_begun g (shape_in lent) n x))) areas_are calls)
+
   -- and of the same site behind its first restart
   module _ (engine : Engine D g) (same : IsOfSameSite lent engine) where
     sized_as : IsOfCapacity capacity catalog.sites (layout_in engine)
@@ -81,7 +89,7 @@ returns-in-Err-clause-begins g c =
     (begins_by g.D.Disk g.met.D.Disk.counts_now _ (shape_in lent) lent.areas c.args.disk _ c.begin.result (disk_in lent) new
     (disk_is c.args.catalog.now c.args.capacity c.args.areas c.args.format c.args.site c.args.disk lent _ c.deref_mut.ensures.value made) (sym c.in-Err.is)
     (λ P holds. subst (λ (o : Option g.row.D.Denot). IfSome o P) (sym back) holds)
-    c.begin.ensures.begins c.begin.ensures.any_moment c.begin.ensures.faults c.begin.ensures.arms)
+    c.begin.ensures.begins c.begin.ensures.any_moment c.begin.ensures.faults c.begin.ensures.at_most c.begin.ensures.arms)
 
 pub returns-clause-begins : goal.returns-clause-begins
 returns-clause-begins g c =
@@ -92,7 +100,7 @@ returns-clause-begins g c =
     (disk_in c.begin.new.self)
     (disk_is c.args.catalog.now c.args.capacity c.args.areas c.args.format c.args.site c.args.disk lent _ c.deref_mut.ensures.value made)
     (sym c.in_default-begin.is) (λ P holds. holds)
-    c.begin.ensures.begins c.begin.ensures.any_moment c.begin.ensures.faults c.begin.ensures.arms)
+    c.begin.ensures.begins c.begin.ensures.any_moment c.begin.ensures.faults c.begin.ensures.at_most c.begin.ensures.arms)
 
 pub returns-clause-opens : goal.returns-clause-opens
 returns-clause-opens g c =
@@ -112,6 +120,9 @@ returns-clause-opens g c =
       trail = opened _ _ _ c.push_reserved.ensures.items c.in-Ok.ensures.entries c.opening_of.ensures;
       outs_are = refl;
       there = has_disk engine;
+      calls = calls_here g.D.Disk (shape_by c.args.capacity catalog.sites c.args.format) c.args.areas (disk_in lent) (disk_in engine) c.args.disk lent_is (has_disk engine)
+          (calls_as catalog c.args.capacity c.args.areas c.args.format c.args.site c.args.disk lent _ c.deref_mut.ensures.value made (disk_in engine)
+          (rw c.in_default-begin.is at c.begin.ensures.device));
       told = told_here g.D.Disk (disk_in lent) (disk_in engine) c.args.disk lent_is (has_disk engine) c.begin.ensures.tells;
     }
 

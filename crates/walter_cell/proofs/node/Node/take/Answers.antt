@@ -1,4 +1,4 @@
-use Rattle.std.proofs.Common.{◌≡◌, ◌≤◌, ◌+◌, ◌-◌, ℕ, vec_capacity, vec_len, ◌++◌, List, [], ◌∷◌, length, set, take, drop, reverse, refl, ap, sym, ◌∙◌, subst, arith}
+use Rattle.std.proofs.Common.{◌≡◌, ◌≤◌, ◌+◌, ◌-◌, ℕ, vec_capacity, vec_len, ◌++◌, List, [], ◌∷◌, length, set, take, drop, reverse, refl, ap, sym, ◌∙◌, subst, arith, inr}
 use Rattle.std.proofs.lemmas.List.{length-map, length-set}
 use Rattle.walter_engine.specs.Effects.{HasCome}
 use Rattle.walter_engine.specs.Engines.{catalog_in, site_in, layout_in, Stands}
@@ -19,6 +19,7 @@ use Rattle.walter_rules.specs.Trails.{Comes, standing, IsNextStamp}
 use Rattle.walter_rules.proofs.Staying.{later_next}
 use Rattle.walter_cell.specs.Nodes.{NodeParts, NodeValue, entry_by, IsWhole, Takes, seen}
 use Rattle.walter_cell.proofs.Ages.{comes_young}
+use Rattle.walter_cell.proofs.DiskCalls.{calls_at}
 use Rattle.walter_cell.proofs.Nodes.{all_back, last_pushed, last_set, node_more, known_more, drops_more}
 use Rattle.walter_cell.proofs.Wholes.{whole_of, told_before, takes_of}
 use Rattle.walter_cell.proofs.node.Node.take.Given.{Over}
@@ -115,6 +116,13 @@ module _ (g : Over) (c : goal.After-self-5-1 g) where
       takes_of old new before after c.args.stamp c.args.event (with_sends sends c.put_out-entry.result came)
       trail_is places c.take-frames.ensures.sized.outcome c.take-frames.ensures.engine c.take-frames.ensures.tells
       c.take-frames.ensures.arms put.rings put.same_mets
+      (λ told. inr (
+        entry_by c.args.stamp c.args.event (with_sends sends c.put_out-entry.result came),
+        trail_is,
+        calls_at old.engine new.engine S c.args.event came sends c.put_out-entry.result (whole.known told).stands
+            (λ rests. c.take-frames.ensures.device (λ down is. rests down (sym event_is ∙ is)))
+            (λ down is. c.take-frames.ensures.loads down (event_is ∙ is)),
+      ))
       (λ told. drops_more (catalog_in old.engine) (layout_in old.engine) (site_in old.engine) old new c.args.stamp c.args.event came sends
       c.put_out-entry.result trail_is c.put_out-entry.ensures.out whole.is
       c.take-frames.ensures.none_dropped (comes (whole.known told).stands))

@@ -2,10 +2,10 @@ use Rattle.std.proofs.Common.{◌≡◌, ◌<◌, Some, length, set, slice_get, 
 use Rattle.std.specs.Prelude.{IfOk, OnErr}
 use Rattle.std.proofs.lemmas.Result.{IfOk-weaker, on_err_weaker}
 use Rattle.walter_cluster.specs.Benches.{BenchValue, Keeps, trails_of}
-use Rattle.walter_cluster.specs.Moments.{KeepsArms, ActsAt, Drops, moment_of}
+use Rattle.walter_cluster.specs.Moments.{KeepsArms, ActsAt, CallsDisk, Drops, moment_of}
 use Rattle.walter_cell.specs.Cells.{CellValue}
 use Rattle.walter_cluster.proofs.Changes.{ChangesOne, one_there}
-use Rattle.walter_cluster.proofs.Benches.{one_at, trails_kept, proceeds_keeps, proceeds_arms, proceeds_drops, acts_at}
+use Rattle.walter_cluster.proofs.Benches.{one_at, trails_kept, proceeds_keeps, proceeds_arms, proceeds_calls, proceeds_drops, acts_at}
 use Rattle.walter_cluster.proofs.Keeping.{each_one, whole_kept}
 use Rattle.walter_cluster.proofs.bench.Bench.act.Given.{Over}
 use Rattle.walter_cluster.proofs.bench.Bench.act.Goals.{After-act}
@@ -53,6 +53,13 @@ returns-clause-drops g c =
     let at = (goal.at.returns-clause-drops g c).After-act in
     subst (λ (v : BenchValue g.row.D.Denot). Drops g.D.Disk c.args.site v (new g at)) c.self.view_is
     (proceeds_drops g.D.Disk _ _ c.args.site _ _ (one g at) (old g at).homes c.act.ensures.proceeds
+    (c.self.invariant.0.cells c.args.site.0 _ (one g at).was).site)
+
+pub returns-clause-calls : goal.returns-clause-calls
+returns-clause-calls g c =
+    let at = (goal.at.returns-clause-calls g c).After-act in
+    subst (λ (v : BenchValue g.row.D.Denot). CallsDisk g.D.Disk c.args.site v (new g at)) c.self.view_is
+    (proceeds_calls g.D.Disk _ _ c.args.site _ _ (one g at) (old g at).homes c.act.ensures.proceeds
     (c.self.invariant.0.cells c.args.site.0 _ (one g at).was).site)
 
 pub returns-clause-acts : goal.returns-clause-acts

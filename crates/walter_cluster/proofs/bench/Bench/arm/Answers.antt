@@ -52,10 +52,10 @@ returns-clause-arms g c =
     subst (λ (v : BenchValue g.row.D.Denot). OnOk c.arm.result
     (ArmsAt c.args.site c.args.nth c.args.choice (moment_of g.D.Disk v.cells) (moment_of g.D.Disk (new g at).cells))) c.self.view_is
     (on_ok_weaker c.arm.result
-    (arms_there g.D.Disk _ _ c.args.site _ _ (one g at) c.args.nth c.args.choice c.arm.ensures.trail c.arm.ensures.ins) c.arm.ensures.armed)
+    (arms_there g.D.Disk _ _ c.args.site _ _ (one g at) c.args.nth c.args.choice c.arm.ensures.trail c.arm.ensures.ins c.arm.ensures.calls) c.arm.ensures.armed)
 
 pub returns-clause-kept : goal.returns-clause-kept
 returns-clause-kept g c =
     let at = (goal.at.returns-clause-kept g c).After-arm in
     subst (λ (v : BenchValue g.row.D.Denot). OnErr c.arm.result (moment_of g.D.Disk (new g at).cells ≡ moment_of g.D.Disk v.cells)) c.self.view_is
-    (on_err_weaker c.arm.result (same_moment g.D.Disk _ _ c.args.site _ _ (one g at) c.arm.ensures.trail c.arm.ensures.ins) c.arm.ensures.unarmed)
+    (on_err_weaker c.arm.result (same_moment g.D.Disk _ _ c.args.site _ _ (one g at) c.arm.ensures.trail c.arm.ensures.ins c.arm.ensures.calls) c.arm.ensures.unarmed)

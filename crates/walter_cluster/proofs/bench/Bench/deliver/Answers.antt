@@ -4,7 +4,7 @@ use Rattle.walter_cluster.specs.Benches.{BenchValue, IsBench}
 use Rattle.walter_cluster.specs.Meetings.{HasArrived, HasGathered}
 use Rattle.walter_cluster.specs.Moments.{at_once}
 use Rattle.walter_cluster.proofs.Benches.{on_err_so}
-use Rattle.walter_cluster.proofs.Gathering.{read_here, has_place, is_spent, gathered_keeps, gathered_drops, gathered_trails, gathered_arms, lanes_here, one, site_here, now_keeps, now_drops, now_arms, now_trails, now_moves}
+use Rattle.walter_cluster.proofs.Gathering.{read_here, has_place, is_spent, gathered_keeps, gathered_calls, gathered_drops, gathered_trails, gathered_arms, lanes_here, one, site_here, now_keeps, now_calls, now_drops, now_arms, now_trails, now_moves}
 use Rattle.walter_cluster.proofs.Keeping.{bench_self, each_one, whole_kept}
 use Rattle.walter_cluster.proofs.bench.Bench.deliver.Given.{Over}
 use Rattle.walter_cluster.proofs.bench.Bench.deliver.Goals.{After-is_spent, After-gather, After-index_mut}
@@ -41,6 +41,11 @@ pub returns-in_err-gather-clause-drops : goal.returns-in_err-gather-clause-drops
 returns-in_err-gather-clause-drops g c =
     let at = (goal.at.returns-in_err-gather-clause-drops g c).After-gather in
     gathered_drops g.D.Disk _ _ c.args.to (is g at) c.requires.to c.gather.ensures.gathers
+
+pub returns-in_err-gather-clause-calls : goal.returns-in_err-gather-clause-calls
+returns-in_err-gather-clause-calls g c =
+    let at = (goal.at.returns-in_err-gather-clause-calls g c).After-gather in
+    gathered_calls g.D.Disk _ _ c.args.to (is g at) c.requires.to c.gather.ensures.gathers
 
 pub returns-in_err-gather-clause-kept : goal.returns-in_err-gather-clause-kept
 returns-in_err-gather-clause-kept g c =
@@ -102,6 +107,12 @@ pub returns-clause-drops : goal.returns-clause-drops
 returns-clause-drops g c =
     let at = (goal.at.returns-clause-drops g c).After-index_mut in
     now_drops g.D.Disk _ _ c.args.to (now_is g at) c.requires.to (gathers g at) (arrives g at) c.from-place.result c.index_mut.result.now c.deliver.new.self
+    c.from-place.ensures c.index_mut.ensures.value c.deliver.ensures.proceeds
+
+pub returns-clause-calls : goal.returns-clause-calls
+returns-clause-calls g c =
+    let at = (goal.at.returns-clause-calls g c).After-index_mut in
+    now_calls g.D.Disk _ _ c.args.to (now_is g at) c.requires.to (gathers g at) (arrives g at) c.from-place.result c.index_mut.result.now c.deliver.new.self
     c.from-place.ensures c.index_mut.ensures.value c.deliver.ensures.proceeds
 
 pub returns-clause-arms : goal.returns-clause-arms

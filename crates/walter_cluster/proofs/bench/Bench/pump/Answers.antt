@@ -8,7 +8,7 @@ use Rattle.walter_rules.specs.Standing.{Standing}
 use Rattle.walter_cluster.specs.Pumps.{at_once, raises}
 use Rattle.walter_cluster.proofs.Benches.{on_err_so}
 use Rattle.walter_cluster.proofs.Changes.{one_there}
-use Rattle.walter_cluster.proofs.Gathering.{read_here, has_place, is_spent, stands_here, gathered_keeps, gathered_drops, gathered_trails, gathered_arms, lanes_here, one, site_here, now_keeps, now_drops, now_arms, now_trails, now_pump, now_pumps}
+use Rattle.walter_cluster.proofs.Gathering.{read_here, has_place, is_spent, stands_here, gathered_keeps, gathered_calls, gathered_drops, gathered_trails, gathered_arms, lanes_here, one, site_here, now_keeps, now_calls, now_drops, now_arms, now_trails, now_pump, now_pumps, now_taken, taken_here}
 use Rattle.walter_cluster.proofs.Keeping.{bench_self, each_one, pump_kept, whole_kept}
 use Rattle.walter_cluster.proofs.bench.Bench.pump.Given.{Over}
 use Rattle.walter_cluster.proofs.bench.Bench.pump.Goals.{After-is_spent, After-is_up, After-gather, After-index_mut}
@@ -40,6 +40,9 @@ returns-then-is_spent-clause-pumps g c = λ cell there.
 pub returns-in_err-restart-clause-pump : goal.returns-in_err-restart-clause-pump
 returns-in_err-restart-clause-pump g c =
     pump_kept g.D.Disk c.args.self.now.cells c.restart.new.self.cells c.restart.ensures.keeps.cells c.args.site c.args.pump.now c.requires.pump
+
+pub returns-in_err-restart-clause-taken : goal.returns-in_err-restart-clause-taken
+returns-in_err-restart-clause-taken g c = on_err_so c.from_residual.result _ (0, refl)
 
 pub returns-then-not-is_up-clause-pump : goal.returns-then-not-is_up-clause-pump
 returns-then-not-is_up-clause-pump g c =
@@ -76,10 +79,18 @@ returns-in_err-gather-clause-pump g c =
     pump_kept g.D.Disk _ _ (gathered_keeps g.D.Disk _ _ c.args.site (is g at) c.requires.there c.gather.ensures.gathers).cells c.args.site
     c.args.pump.now c.requires.pump
 
+pub returns-in_err-gather-clause-taken : goal.returns-in_err-gather-clause-taken
+returns-in_err-gather-clause-taken g c = on_err_so c.from_residual-in_err-gather.result _ (0, refl)
+
 pub returns-in_err-gather-clause-drops : goal.returns-in_err-gather-clause-drops
 returns-in_err-gather-clause-drops g c =
     let at = (goal.at.returns-in_err-gather-clause-drops g c).After-gather in
     gathered_drops g.D.Disk _ _ c.args.site (is g at) c.requires.there c.gather.ensures.gathers
+
+pub returns-in_err-gather-clause-calls : goal.returns-in_err-gather-clause-calls
+returns-in_err-gather-clause-calls g c =
+    let at = (goal.at.returns-in_err-gather-clause-calls g c).After-gather in
+    gathered_calls g.D.Disk _ _ c.args.site (is g at) c.requires.there c.gather.ensures.gathers
 
 pub returns-in_err-gather-clause-kept : goal.returns-in_err-gather-clause-kept
 returns-in_err-gather-clause-kept g c =
@@ -133,6 +144,13 @@ pump_arrived-requires-clause-senders g c =
     let at = (goal.at.pump_arrived-requires-clause-senders g c).After-index_mut in
     c.requires.pump.senders ∙ sym (lanes g at)
 
+pub pump_arrived-requires-clause-taken : goal.pump_arrived-requires-clause-taken
+pump_arrived-requires-clause-taken g c =
+    let at = (goal.at.pump_arrived-requires-clause-taken g c).After-index_mut in
+    let a = c.index_mut.result.now in
+    taken_here g.D.Disk _ _ c.args.site (now_is g at) c.requires.there (gathers g at) (arrives g at) c.from-place.result a a
+    c.from-place.ensures c.index_mut.ensures.value c.args.pump.now c.requires.pump
+
 pub invariant_of-self : goal.invariant_of-self
 invariant_of-self g c =
     let at = (goal.at.invariant_of-self g c).After-index_mut in
@@ -152,6 +170,12 @@ returns-clause-drops g c =
     now_drops g.D.Disk _ _ c.args.site (now_is g at) c.requires.there (gathers g at) (arrives g at) c.from-place.result c.index_mut.result.now
     c.pump_arrived.new.self c.from-place.ensures c.index_mut.ensures.value c.pump_arrived.ensures.proceeds
 
+pub returns-clause-calls : goal.returns-clause-calls
+returns-clause-calls g c =
+    let at = (goal.at.returns-clause-calls g c).After-index_mut in
+    now_calls g.D.Disk _ _ c.args.site (now_is g at) c.requires.there (gathers g at) (arrives g at) c.from-place.result c.index_mut.result.now
+    c.pump_arrived.new.self c.from-place.ensures c.index_mut.ensures.value c.pump_arrived.ensures.proceeds
+
 pub returns-clause-arms : goal.returns-clause-arms
 returns-clause-arms g c =
     let at = (goal.at.returns-clause-arms g c).After-index_mut in
@@ -164,6 +188,14 @@ returns-clause-kept g c =
     on_err_weaker c.pump_arrived.result
     (now_trails g.D.Disk _ _ c.args.site (now_is g at) c.requires.there (gathers g at) (arrives g at) c.from-place.result c.index_mut.result.now
     c.pump_arrived.new.self c.from-place.ensures c.index_mut.ensures.value c.pump_arrived.ensures.proceeds) c.pump_arrived.ensures.kept
+
+pub returns-clause-taken : goal.returns-clause-taken
+returns-clause-taken g c =
+    let at = (goal.at.returns-clause-taken g c).After-index_mut in
+    on_err_weaker c.pump_arrived.result
+    (now_taken g.D.Disk _ _ c.args.site (now_is g at) c.requires.there (gathers g at) (arrives g at) c.from-place.result c.index_mut.result.now
+    c.pump_arrived.new.self c.from-place.ensures c.index_mut.ensures.value c.pump_arrived.ensures.proceeds c.args.pump.now c.pump_arrived.new.pump
+    c.requires.pump) c.pump_arrived.ensures.taken
 
 pub returns-clause-pump : goal.returns-clause-pump
 returns-clause-pump g c =

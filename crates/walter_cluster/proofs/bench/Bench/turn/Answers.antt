@@ -8,9 +8,9 @@ use Rattle.walter_cell.specs.Lines.{LineValue, CanFail, IsLineAt, HasFaultAt, Ne
 use Rattle.walter_rules.specs.declared.entry.Entry.{Entry}
 use Rattle.walter_trail.specs.Calls.{calls_of}
 use Rattle.walter_cluster.specs.Benches.{BenchValue, Keeps, lines_at, trails_of}
-use Rattle.walter_cluster.specs.Moments.{KeepsArms, TurnsAt, Drops, moment_of, trail_at}
+use Rattle.walter_cluster.specs.Moments.{KeepsArms, TurnsAt, CallsDisk, Drops, moment_of, trail_at}
 use Rattle.walter_cluster.proofs.Changes.{ChangesOne, one_there}
-use Rattle.walter_cluster.proofs.Benches.{one_at, trails_kept, proceeds_keeps, proceeds_arms, proceeds_drops, turns_at, trail_was, lines_was}
+use Rattle.walter_cluster.proofs.Benches.{one_at, trails_kept, proceeds_keeps, proceeds_arms, proceeds_calls, proceeds_drops, turns_at, trail_was, lines_was}
 use Rattle.walter_cluster.proofs.Keeping.{each_one, whole_kept, home_within, home_here}
 use Rattle.walter_cluster.specs.Turns.{ServesAtHome}
 use Rattle.walter_cluster.proofs.bench.Bench.turn.Goals as goal
@@ -124,6 +124,25 @@ returns-clause-drops g c = λ i at.
     subst (λ (v : BenchValue g.row.D.Denot). Drops g.D.Disk i v (record { cells = new; homes = old.homes })) c.self.view_is
     (subst (λ (i : SiteId). Drops g.D.Disk i old (record { cells = new; homes = old.homes })) same
     (proceeds_drops g.D.Disk old.cells new h a x one old.homes c.serve.ensures.proceeds here))
+
+pub returns-clause-calls : goal.returns-clause-calls
+returns-clause-calls g c = λ i at.
+    let old : BenchValue g.row.D.Denot = record { cells = c.self.inside.cells.items; homes = c.self.inside.homes.items } in
+    let h = c.index-home.result.now in
+    let number : c.args.number < length old.homes = rw (← c.self.view_is) at c.requires in
+    let home : slice_get old.homes c.args.number ≡ Some h =
+    slice_get_read old.homes (length old.homes) c.args.number h refl number c.index-home.ensures in
+    let there : h.0 < length old.cells = home_within old.homes (length old.cells) c.args.number h home c.self.invariant.0.within in
+    let a = c.index_mut.result.now in
+    let x = c.serve.new.self in
+    let new : List (CellValue g.row.D.Denot) = set old.cells c.from.result x in
+    let one : ChangesOne old.cells new h.0 a x = one_at old.cells c.from.result h.0 a x c.from.ensures there c.index_mut.ensures.value in
+    let at : slice_get old.homes c.args.number ≡ Some i = rw (← c.self.view_is) at at in
+    let same : h ≡ i = one_there old.homes c.args.number h i home at in
+    let here : a.node.site ≡ h = (c.self.invariant.0.cells h.0 a one.was).site in
+    subst (λ (v : BenchValue g.row.D.Denot). CallsDisk g.D.Disk i v (record { cells = new; homes = old.homes })) c.self.view_is
+    (subst (λ (i : SiteId). CallsDisk g.D.Disk i old (record { cells = new; homes = old.homes })) same
+    (proceeds_calls g.D.Disk old.cells new h a x one old.homes c.serve.ensures.proceeds here))
 
 pub returns-clause-serves : goal.returns-clause-serves
 returns-clause-serves g c = λ i at.

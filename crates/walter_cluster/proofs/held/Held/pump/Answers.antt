@@ -1,4 +1,4 @@
-use Rattle.std.proofs.Common.{◌≡◌, true, ap, sym, ◌∙◌}
+use Rattle.std.proofs.Common.{◌≡◌, true, ap, arith, sym, ◌∙◌}
 use Rattle.walter_cell.specs.Nodes.{arms_under, is_told, standing_of}
 use Rattle.walter_rules.specs.Knowledge.{site_at}
 use Rattle.walter_cluster.proofs.Keeping.{keeps_on}
@@ -32,6 +32,13 @@ invariant_of-self-in_err-poll g c =
     let polled = c.poll.ensures in
     held_further g.D.Disk g.N.Name.origins g.row.I a b p p is polled.keeps (ap (λ n. arms_under g.D.Disk n.disk) polled.node)
     (works_still g.D.Disk is.origin.scenario (site_at g.row.I) a b p polled.keeps (ap (λ n. n.trail) polled.node) is.works)
+
+-- no more was taken than has arrived
+pub pump_arrived-requires-clause-taken : goal.pump_arrived-requires-clause-taken
+pump_arrived-requires-clause-taken g c = λ from.
+    let most = c.self.invariant.works.taken from in
+    let more = c.poll.ensures.keeps.more from in
+    omega (arith, most, more)
 
 -- the site did what was next
 pub invariant_of-self-2 : goal.invariant_of-self-2
