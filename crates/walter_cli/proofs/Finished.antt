@@ -251,7 +251,7 @@ module _ {D : Type 0} (g : Ghosts D) (t : Scenario) (before mid after : RackAt D
 
     -- the calls that had been made of the disks once all sites had begun
     begun : AreCallsBegun rack t (calls_at g built.cells)
-    begun i below =
+    begun = λ i below.
         let was = taken_at i below in
         calls_told g before.disks (shape_of t) t.areas i (calls_at g built.cells i) was.0 (has.taken.told i was.0 was.1)
         (has.calls i was.0 was.1)

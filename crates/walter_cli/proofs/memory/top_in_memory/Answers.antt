@@ -27,12 +27,13 @@ sound handed more all same =
     let is : handed ≡ more = cc in
     subst (λ xs. All (λ (it : ℕ × MemoryState). it.1.stops.arms ≡ [] → it.1.stops.faults ≡ 0) xs) is (λ k d within none. (all k d within none).2)
 
+none_before : (n : ℕ) → 0 + n + 4 ≡ n + 4
+none_before n = omega arith
+
 -- how often a disk without bytes was called once its site had begun
 calls_anew : (s : Scenario) (i : ℕ) (last : RackAt MemoryState)
     → (racked disk_ghosts (at (rack_of [] 32)) last).calls_begun (shape_of s) s.areas i ≡ Some (calls_begun_anew s)
-calls_anew s i last =
-    let load = calls_of_load (shape_of s) s.areas 0 in
-    ap (λ (n : ℕ). Some n) (let z : 0 + load + 4 ≡ load + 4 = omega arith in z)
+calls_anew s i last = ap (λ (n : ℕ). Some n) (none_before (calls_of_load (shape_of s) s.areas 0))
 
 -- what a call assures over the rack that was made for it
 of_made : (words : List (String Global)) (made last : RackState) (before after : Outside) (ended : Ended) → made ≡ rack_of [] 32
