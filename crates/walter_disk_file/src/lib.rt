@@ -6,8 +6,6 @@ mod folder;
 mod handed_disks;
 mod host_disk;
 mod host_rack;
-#[cfg(test)]
-mod tests;
 
 pub use file_disk::FileDisk;
 pub use folder::JournalName;

@@ -60,6 +60,8 @@ impl Appender {
     }
 
     /// The bytes as they are.
+    // Most are of a number, so how many they are is known where it is called.
+    #[inline(always)]
     pub fn bytes(&mut self, bytes: &[u8])
         requires { length bytes.now ≤ self.old.room }
         ensures bytes { self.new.bytes ≡ self.old.bytes ++ bytes.now }

@@ -141,6 +141,8 @@ fn read_record(
 }
 
 /// The record among so many sites that the bytes spell, all of them; none where they spell none.
+// A restart decodes record by record, so its loop is to have this in it.
+#[inline(always)]
 pub fn decode(alloc: Global, bytes: &[u8], sites: u8, format: Format) -> Mem<Option<Record>>
     requires { sites ≤ most_in format }
     ensures some { IfOk result (λ found. IfSome found

@@ -61,13 +61,14 @@ fn step_of_one(sites: u8, clients: usize, word: &Value, number: &Value) -> Optio
     ensures none { IfNone result ((step : Step) → IsStep sites clients step
         → list (view word.now ∷ view number.now ∷ []) ≢ step_spelled step) }
 {
+    // The words are compared one behind the other, so those that most steps have come first.
     match string_of(word)? {
         "call" => Some(Step::Call(client_of(clients, number)?)),
+        "pump" => Some(Step::Pump(site_of(sites, number)?)),
         "tick" => Some(Step::Tick(site_of(sites, number)?)),
-        "upgrade" => Some(Step::Upgrade(site_of(sites, number)?)),
         "stop" => Some(Step::Stop(site_of(sites, number)?)),
         "restart" => Some(Step::Restart(site_of(sites, number)?)),
-        "pump" => Some(Step::Pump(site_of(sites, number)?)),
+        "upgrade" => Some(Step::Upgrade(site_of(sites, number)?)),
         _ => None,
     }
 }

@@ -1,4 +1,5 @@
-//! Tests of what is spelled as bytes, one module for each crate. The crate has nothing else.
+//! Tests of what is spelled as bytes, and of the words of a command, one module for each crate. The crate has nothing
+//! else.
 #![tactic(auto)]
 
 #[cfg(test)]
@@ -25,3 +26,5 @@ mod scenarios;
 mod transactions;
 #[cfg(test)]
 mod values;
+#[cfg(test)]
+mod words;

@@ -1,4 +1,5 @@
-//! Tests of disks in memory, of journals and books over them, and of streams over std. The crate has nothing else.
+//! Tests of disks in memory and over files, of journals and books over them, and of streams over std. The crate has
+//! nothing else.
 #![tactic(auto)]
 
 #[cfg(test)]
@@ -7,6 +8,8 @@ mod any_bytes;
 mod books;
 #[cfg(test)]
 mod disks;
+#[cfg(test)]
+mod files;
 #[cfg(test)]
 mod formats;
 #[cfg(test)]

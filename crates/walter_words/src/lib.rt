@@ -7,6 +7,3 @@ mod lines;
 
 pub use asked::{Command, WordsFault, command_of, folder_of};
 pub use folder_path::FolderPath;
-
-#[cfg(test)]
-mod tests;

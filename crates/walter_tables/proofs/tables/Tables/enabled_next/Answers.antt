@@ -15,7 +15,7 @@ returns-then-enabled-clause-rule c = λ K S.
     ∙ next_told c.args.self.now.spread K S.spread j n c.in_ok-tx.tx.now
     (c.get-committed.ensures ∙ ap (λ v. entry_at v j) c.committed.ensures)
     (ap (commit_at j (n + 1)) (sym S.log) ∙ sym c.in_ok-tx.ensures) c.enabled.result
-    (subst (λ start. IsTrue c.enabled.result ↔ IsEnabled c.args.self.now.spread j start) c.vector.ensures c.enabled.ensures)
+    (subst (λ start. IsTrue c.enabled.result ↔ IsEnabled c.args.self.now.spread j start) c.as_slice.ensures.same c.enabled.ensures)
 
 pub returns-else-enabled-clause-rule : goal.returns-else-enabled-clause-rule
 unfolding values_of site_of catalog_of
@@ -26,4 +26,4 @@ returns-else-enabled-clause-rule c = λ K S.
     ∙ next_told c.args.self.now.spread K S.spread j n c.in_ok-tx.tx.now
     (c.get-committed.ensures ∙ ap (λ v. entry_at v j) c.committed.ensures)
     (ap (commit_at j (n + 1)) (sym S.log) ∙ sym c.in_ok-tx.ensures) c.enabled.result
-    (subst (λ start. IsTrue c.enabled.result ↔ IsEnabled c.args.self.now.spread j start) c.vector.ensures c.enabled.ensures)
+    (subst (λ start. IsTrue c.enabled.result ↔ IsEnabled c.args.self.now.spread j start) c.as_slice.ensures.same c.enabled.ensures)

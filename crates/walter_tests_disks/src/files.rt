@@ -1,10 +1,10 @@
-//! Tests over files of the system.
-use super::*;
+//! Tests of disks over files of the system, and of the rack that has them.
 use std::fs::{self, OpenOptions};
 use std::path::PathBuf;
 use std::test::Fail;
 use std::{env, process};
 use walter_disk::{Disk, Rack, write_and_sync};
+use walter_disk_file::{FileDisk, HostDisk, HostRack};
 
 // An empty folder among the temporary files.
 fn new_folder(rt: &HostRuntime, name: &str) -> Result<PathBuf, Fail> {

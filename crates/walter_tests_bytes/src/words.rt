@@ -1,7 +1,7 @@
 //! Tests of what words ask for, and of the texts.
-use crate::{Command, WordsFault, command_of};
 use std::alloc::Global;
 use std::test::Fail;
+use walter_words::{Command, WordsFault, command_of};
 
 // What the words of a line ask for.
 fn asked(alloc: Global, line: &str) -> Result<Result<Command, WordsFault>, Fail> {
