@@ -1,6 +1,5 @@
 //! How the program ends over disks, sources, sinks and racks that fail, and over disks that hold something.
 use crate::playing::legal_history;
-use crate::texts::cut;
 use anyhow::Result;
 use std::alloc::Global;
 use std::sync::{ArcSlice, Wait};
@@ -9,6 +8,7 @@ use walter_base::Mem;
 use walter_cli::{Ended, Fault, top};
 use walter_disk_memory::MemoryRack;
 use walter_scenario::{ReadFault, read};
+use walter_schedules::cut;
 use walter_stream::{MemorySink, MemorySource};
 
 // The list that is given behind this key among these words, or an empty one.

@@ -25,7 +25,6 @@ mod playing;
 mod racks;
 mod schedules;
 mod stops;
-mod texts;
 mod worlds;
 
 use crate::benches::answers_and_held;
@@ -35,7 +34,6 @@ use crate::journals::Flights;
 use crate::playing::{Run, legal_history, play};
 use crate::schedules::{play_at_random, spread_all};
 use crate::stops::{PASSES, stop_all};
-use crate::texts::{end_of, expanded};
 use crate::worlds::is_same_in_a_world;
 use anyhow::{Result, bail};
 use std::alloc::Global;
@@ -44,6 +42,7 @@ use std::path::PathBuf;
 use std::sync::Wait;
 use std::thread::Threads;
 use std::{env, process};
+use walter_schedules::{end_of, expanded};
 
 // What is said of the run of a scenario, behind its report.
 fn told(rt: &impl AllocGlobal, scenario: &str, run: &Run) -> Result<&'static str> {

@@ -32,7 +32,7 @@ fn push_pieces(alloc: Global, text: &mut String, many: &str) -> Result<()> {
 }
 
 /// The text, in which `<3*piece>` is three times the piece.
-pub(crate) fn expanded(alloc: Global, short: &str) -> Result<String> {
+pub fn expanded(alloc: Global, short: &str) -> Result<String> {
     let mut text = String::new(alloc);
     for part in short.split('<') {
         match part.split_once('>') {
@@ -47,7 +47,7 @@ pub(crate) fn expanded(alloc: Global, short: &str) -> Result<String> {
 }
 
 /// The text, or of a long one its front and its end.
-pub(crate) fn cut(alloc: Global, text: &str) -> Mem<String> {
+pub fn cut(alloc: Global, text: &str) -> Mem<String> {
     let behind = text.len().saturating_sub(SHOWN);
     match (text.get(..SHOWN), text.get(behind..)) {
         (Some(front), Some(end)) if behind > 2 * SHOWN => {
@@ -66,7 +66,7 @@ fn count_of_lines(text: &str) -> u64 {
 }
 
 /// How many lines a text has, and the last three, each cut where it is long.
-pub(crate) fn end_of(alloc: Global, text: &str) -> Mem<String> {
+pub fn end_of(alloc: Global, text: &str) -> Mem<String> {
     let count = count_of_lines(text);
     let mut end = format!(in alloc; "{count} lines, and the last are")?;
     let mut left = count;
