@@ -88,12 +88,11 @@ pub driven_from : (command : Command) (told : ℕ → Type 0) (t : Scenario) (fi
     → Drives command told t first last → IsDrivenBy command told t first.calls trails arms
 driven_from (Play trace disks) told t first last trails arms begins ends arms_are plays =
     played_from told t first last trails arms begins ends arms_are plays
-driven_from (Run trace disks) told t first last trails arms begins ends arms_are drives =
-    (
-      subst (λ (ts : List (List Entry)). IsDriven told ⊥ t ts) ends drives.0,
-      λ i. arms_from (first.arms i) (arms i) (map (laid_after (first.calls i)) (all_arms t i)) (begins.none_armed i)
-          (sym (arms_are i) ∙ drives.1 i),
-    )
+driven_from (Run trace disks) told t first last trails arms begins ends arms_are drives = (
+  subst (λ (ts : List (List Entry)). IsDriven told ⊥ t ts) ends drives.0,
+  λ i. arms_from (first.arms i) (arms i) (map (laid_after (first.calls i)) (all_arms t i)) (begins.none_armed i)
+      (sym (arms_are i) ∙ drives.1 i),
+)
 driven_from (Load seed calls) told t first last trails arms begins ends arms_are plays =
     played_from told t first last trails arms begins ends arms_are plays
 driven_from (Audit disks) told t first last trails arms begins ends arms_are drives = absurd drives
