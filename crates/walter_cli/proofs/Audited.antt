@@ -11,6 +11,7 @@ use Rattle.walter_audit.specs.declared.finding.Finding.TheVariants.{Yes, No}
 use Rattle.walter_base.specs.declared.names.SiteId.{SiteId}
 use Rattle.walter_checkpoint.specs.Areas.{IsForeign}
 use Rattle.walter_cluster.proofs.Changes.{there_is}
+use Rattle.walter_disk.specs.Disks.{Arming}
 use Rattle.walter_disk.specs.declared.disk.Disk.{Ghosts}
 use Rattle.walter_disk.specs.Images.{Only}
 use Rattle.walter_inspect.specs.Findings.{finding_text}
@@ -102,7 +103,7 @@ module _ {D : Type 0} (g : Ghosts D) (s : Scenario) (before mid after : RackAt D
       let disk = was.0 in
       let read = only.each i disk now was.1 at in
       let fresh = is.fresh i disk was.1 in record {
-        unarmed = subst (λ (o : Option (List (ℕ × ℕ))). IfSome o (λ told. told ≡ [])) (sym read.arms) fresh.unarmed;
+        unarmed = subst (λ (o : Option (List Arming)). IfSome o (λ told. told ≡ [])) (sym read.arms) fresh.unarmed;
         only = held_by i disk (λ bytes. Only bytes (g.may_leave now)) was.1
             (of_reads (g.known disk).reads (g.may_leave disk) (λ bytes. Only bytes (g.may_leave now)) fresh.durable
             (λ bytes told nothing_else image left. nothing_else image (read.crash image left)));

@@ -6,6 +6,7 @@ use Rattle.std.proofs.lemmas.Option.{slice_get_within}
 use Rattle.walter_cluster.specs.Benches.{shape_of}
 use Rattle.walter_cluster.specs.Builds.{LeavesDisk, IsWhyNone}
 use Rattle.walter_cluster.specs.declared.opening.Unbuilt.{Unbuilt}
+use Rattle.walter_disk.specs.Disks.{Arming}
 use Rattle.walter_disk.specs.declared.disk.Disk.{Ghosts}
 use Rattle.walter_engine.specs.Begins.{HasOnly, IsBegun, IsFaultOfBegin, MayHaveBegun, HasNoRecord}
 use Rattle.walter_engine.specs.declared.answers.BeginFault.{BeginFault}
@@ -77,7 +78,7 @@ module _ {D : Type 0} (g : Ghosts D) (s : Scenario) (before mid after : RackAt D
   untouched left = record {
     unarmed = each_back g before mid after taken back is (λ i. IsUnarmed) (λ i now at.
         let was = left_of left i now at in
-        subst (λ (o : Option (List (ℕ × ℕ))). IfSome o (λ told. told ≡ [])) (sym was.2.arms) (is.fresh i was.0 was.1).unarmed);
+        subst (λ (o : Option (List Arming)). IfSome o (λ told. told ≡ [])) (sym was.2.arms) (is.fresh i was.0 was.1).unarmed);
     kept = each_back g before mid after taken back is
         (λ i known images. Holds rack i (λ bytes. (image : List ℕ) → images image → MayHaveBegun (shape_of s) s.areas bytes image)) (λ i now at.
         let was = left_of left i now at in

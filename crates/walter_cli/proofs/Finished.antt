@@ -9,11 +9,12 @@ use Rattle.walter_base.specs.declared.names.SiteId.{SiteId}
 use Rattle.walter_cell.specs.Cells.{CellValue, IsCell}
 use Rattle.walter_cell.specs.Entries.{HaveRisingStamps}
 use Rattle.walter_cell.specs.Nodes.{IsSound, LeavesRecords as LeavesOn, arms_under}
-use Rattle.walter_cluster.specs.Benches.{BenchValue, EachKeeps, IsLaidFor, IsOf, IsBench, IsToldAt, AtEach, arms_at, shape_of, trails_of, disks_of}
+use Rattle.walter_cluster.specs.Benches.{BenchValue, EachKeeps, IsLaidFor, IsOf, IsBench, IsToldAt, AtEach, arms_at, calls_at, shape_of, trails_of, disks_of}
 use Rattle.walter_cluster.specs.Builds.{LeavesDisk}
 use Rattle.walter_cluster.specs.Moments.{moment_of}
 use Rattle.walter_cluster.proofs.Changes.{there_is}
 use Rattle.walter_cluster.proofs.Keeping.{of_each, connected_each, told_each}
+use Rattle.walter_disk.specs.Disks.{Arming, asked}
 use Rattle.walter_disk.specs.declared.disk.Disk.{Ghosts}
 use Rattle.walter_engine.specs.Begins.{HasNoRecord}
 use Rattle.walter_linked.specs.Catalogs.{IsWhole}
@@ -30,12 +31,12 @@ use Rattle.walter_cli.specs.declared.ended.Fault.{Fault}
 use Rattle.walter_cli.specs.declared.ended.Fault.TheVariants.{Usage, Scenario as ScenarioFault, Read, Write, Memory, Rack, Journal}
 use Rattle.walter_cli.specs.Disks.{AreGiven}
 use Rattle.walter_cli.specs.Ending.{Drives, IsBuilt, IsWholeBack, IsWriteFault, EndsRun}
-use Rattle.walter_cli.specs.Headline.{AreCallsOf, AreTold, HaveHeaders, LeavesRecords, IsDiskOfRun, IsDiskOfWhole, IsRun, IsWholeRun, trail_at}
+use Rattle.walter_cli.specs.Headline.{AreCallsBegun, AreCallsOf, AreTold, HaveHeaders, LeavesRecords, IsDiskOfRun, IsDiskOfWhole, IsRun, IsWholeRun, trail_at}
 use Rattle.walter_cli.specs.Racks.{RackAt, Racked, Holds, IsTold, racked}
 use Rattle.walter_cli.specs.Words.{written_by}
 use Rattle.walter_words.specs.declared.asked.Command.{Command}
 use Rattle.walter_cli.proofs.Driven.{armed_by, driven_from, driven_by_fewer}
-use Rattle.walter_cli.proofs.Giving.{IsReturned, handed_back, all_back, all_or_failed, holds_taken, told_reads}
+use Rattle.walter_cli.proofs.Giving.{IsReturned, handed_back, all_back, all_or_failed, calls_told, holds_taken, told_reads}
 use Rattle.walter_cli.proofs.Trails.{field_of, field_at, trail_is, one_each, begins, stamps_rise, calls_are, told_trails}
 
 -- ---- disks
@@ -44,15 +45,17 @@ use Rattle.walter_cli.proofs.Trails.{field_of, field_at, trail_is, one_each, beg
 of_disk : {D : Type 0} (found : Option D) (disk : D) (P : D → Type 0) → found ≡ Some disk → IfSome found P → P disk
 of_disk found disk P is holds = subst (λ o. IfSome o P) is holds
 
--- arms from none on
-arms_from : (before after : Option (List (ℕ × ℕ))) (arms : List (ℕ × ℕ)) → IfSome before (λ told. told ≡ [])
-    → after ≡ option_map (λ told. told ++ arms) before → IfSome after (λ told. told ≡ arms)
-arms_from None after arms none is = subst (λ o. IfSome o (λ told. told ≡ arms)) (sym is) tt
-arms_from (Some told) after arms none is = subst (λ o. IfSome o (λ t. t ≡ arms)) (sym is) (ap (λ t. t ++ arms) none)
+-- what the arms ask for that were laid from none on
+asked_from : (before after : Option (List Arming)) (laid : List Arming) (arms : List (ℕ × ℕ)) → map asked laid ≡ arms
+    → IfSome before (λ told. told ≡ []) → after ≡ option_map (λ told. told ++ laid) before
+    → IfSome after (λ told. map asked told ≡ arms)
+asked_from None after laid arms are none is = subst (λ o. IfSome o (λ told. map asked told ≡ arms)) (sym is) tt
+asked_from (Some told) after laid arms are none is =
+    subst (λ o. IfSome o (λ t. map asked t ≡ arms)) (sym is) (ap (λ (t : List Arming). map asked (t ++ laid)) none ∙ are)
 
-arms_front : (after : Option (List (ℕ × ℕ))) (t : Scenario) (i : ℕ) (some more : List Arm)
-    → t.arms ++ arms_of t.steps ≡ some ++ more → IfSome after (λ told. told ≡ arms_for i some)
-    → IfSome after (λ arms. (rest : List (ℕ × ℕ)) × (all_arms t i ≡ arms ++ rest))
+arms_front : (after : Option (List Arming)) (t : Scenario) (i : ℕ) (some more : List Arm)
+    → t.arms ++ arms_of t.steps ≡ some ++ more → IfSome after (λ told. map asked told ≡ arms_for i some)
+    → IfSome after (λ arms. (rest : List (ℕ × ℕ)) × (all_arms t i ≡ map asked arms ++ rest))
 arms_front None t i some more all is = tt
 arms_front (Some told) t i some more all is = (
   arms_for i more,
@@ -181,11 +184,12 @@ module _ {D : Type 0} (g : Ghosts D) (t : Scenario) (before mid after : RackAt D
 
   -- they are those that were armed
   armed_at : (arms : List Arm) → AreArmed (moment_of g built.cells) (moment_of g bench.cells) arms → (i : ℕ) (disk : D) → slice_get back i ≡ Some disk
-      → IfSome (g.known disk).arms (λ told. told ≡ arms_for i arms)
+      → IfSome (g.known disk).arms (λ told. map asked told ≡ arms_for i arms)
   armed_at arms armed i disk at =
       let was = taken_at i (below_back i disk at) in
-      arms_from (g.known was.0).arms (g.known disk).arms (arms_for i arms) (has.taken.fresh i was.0 was.1).unarmed
-      (arms_are i disk at ∙ (armed i ∙ ap (λ o. option_map (λ told. told ++ arms_for i arms) o) (has.arms i was.0 was.1)))
+      let laid = armed i in
+      asked_from (g.known was.0).arms (g.known disk).arms laid.0 (arms_for i arms) laid.1 (has.taken.fresh i was.0 was.1).unarmed
+      (arms_are i disk at ∙ (laid.2 ∙ ap (λ o. option_map (λ (told : List Arming). told ++ laid.0) o) (has.arms i was.0 was.1)))
 
   disk_of_run : (i : ℕ) (disk : D) → slice_get back i ≡ Some disk
       → IsDiskOfRun rack t trails i (g.known disk) (g.may_leave disk)
@@ -245,11 +249,20 @@ module _ {D : Type 0} (g : Ghosts D) (t : Scenario) (before mid after : RackAt D
     armed : AreArmed (moment_of g built.cells) (moment_of g bench.cells) (t.arms ++ arms_of t.steps)
     armed = armed_by command (λ i. IsToldAt g i built) t (moment_of g built.cells) (moment_of g bench.cells) drives
 
+    -- the calls that had been made of the disks once all sites had begun
+    begun : AreCallsBegun rack t (calls_at g built.cells)
+    begun = λ i below.
+        let was = taken_at i below in
+        calls_told g before.disks (shape_of t) t.areas i (calls_at g built.cells i) was.0 (has.taken.told i was.0 was.1)
+        (has.calls i was.0 was.1)
+
     pub whole_is : IsWhole t.catalog → IsWholeRun rack command t trails (arms_at g bench.cells)
     whole_is whole = record {
       run = run_is whole;
-      how_driven = driven_by_fewer command (λ i. IsToldAt g i built) (λ i. IsTold rack i) t trails (arms_at g bench.cells) told_built
-          (driven_from command (λ i. IsToldAt g i built) t (moment_of g built.cells) (moment_of g bench.cells) trails
+      calls = calls_at g built.cells;
+      calls_begun = begun;
+      how_driven = driven_by_fewer command (λ i. IsToldAt g i built) (λ i. IsTold rack i) t (calls_at g built.cells) trails
+          (arms_at g bench.cells) told_built (driven_from command (λ i. IsToldAt g i built) t (moment_of g built.cells) (moment_of g bench.cells) trails
           (arms_at g bench.cells) has.first (sym trails_are) (λ i. refl) drives);
       disks = subst (λ (n : ℕ). rack.handed n (λ i. IsDiskOfWhole rack t trails (arms_at g bench.cells) i)) long_taken
           (handed_back g before mid after has.disks back returned

@@ -6,12 +6,14 @@ use Rattle.std.proofs.lemmas.Bool.{cases_lt}
 use Rattle.std.proofs.lemmas.List.{append-nil, length-append}
 use Rattle.std.proofs.lemmas.List.Elements.{All-contains}
 use Rattle.std.proofs.lemmas.Option.{slice_get_within}
+use Rattle.walter_cell.specs.Builds.{calls_once_begun}
+use Rattle.walter_checkpoint.specs.Areas.{Shape}
 use Rattle.walter_disk.specs.Images.{Only, IsDurable}
 use Rattle.walter_disk.specs.Racks.{IsFresh}
 use Rattle.walter_disk.specs.declared.disk.Disk.{Ghosts}
 use Rattle.walter_psi.proofs.Lists.{contains_at}
 use Rattle.walter_cli.specs.Disks.{AreGiven, IsFirstLost}
-use Rattle.walter_cli.specs.Racks.{OfADisk, RackAt, Racked, IsMore, AreSo, AreFirst, AreGivenBack, AreHandedBack, bytes_of, numbered, racked, FailsToGive}
+use Rattle.walter_cli.specs.Racks.{OfADisk, RackAt, Racked, IsMore, AreSo, AreFirst, AreGivenBack, AreHandedBack, bytes_of, calls_begun_of, numbered, racked, FailsToGive}
 use Rattle.walter_cli.proofs.Trails.{all_there}
 
 -- what holds of a result that is Ok holds of one that is no Err
@@ -32,6 +34,13 @@ pub of_reads : (reads : Option (List ℕ)) (images : List ℕ → Type 0) (P : L
     → ((bytes : List ℕ) → reads ≡ Some bytes → Only bytes images → P bytes) → IfSome reads P
 of_reads None images P durable so = tt
 of_reads (Some bytes) images P durable so = so bytes refl durable
+
+-- the calls of a disk once its site has begun, where the rack tells it
+pub calls_told : {D : Type 0} (g : Ghosts D) (disks : Option (Option (List ℕ) → ℕ → D)) (shape : Shape) (areas i calls : ℕ) (disk : D)
+    → IfSome disks (λ take. disk ≡ take None i) → calls ≡ calls_once_begun g shape areas disk
+    → IfSome (calls_begun_of g disks shape areas i) (λ made. calls ≡ made)
+calls_told g None shape areas i calls disk told is = tt
+calls_told {D = D} g (Some take) shape areas i calls disk told is = is ∙ ap (λ (d : D). calls_once_begun g shape areas d) told
 
 -- ---- disks with their numbers
 

@@ -23,7 +23,7 @@ use Rattle.walter_cli.specs.Sources.{HasNoReading, IsTaken}
 use Rattle.walter_cli.specs.Headline.{Outside, HasNotBegun, IsRun, OfText, Runs, RunsWhole, Says, OfScenario, IsRackFault, IsFirstUnfit, FailsEarly, Promise}
 use Rattle.walter_cli.specs.Racks.{Racked, AreAllTold, Holds, IsUntaken, IsUntouched, IsFaultlessBefore, HasCause}
 use Rattle.walter_cli.specs.Statuses.{status_of}
-use Rattle.walter_cli.specs.Words.{Asks, AskForNone, IsForText, IsPosed, IsRead, IsWrong, Poses, but_for_steps}
+use Rattle.walter_cli.specs.Words.{Asks, AskForNone, IfMade, IsForText, IsPosed, IsRead, IsWrong, Poses, but_for_steps}
 use Rattle.walter_words.specs.Words.{AsksForText}
 use Rattle.walter_words.specs.declared.asked.Command.{Command}
 use Rattle.walter_words.specs.declared.asked.Command.TheVariants.{Play, Run, Load, Audit, Say}
@@ -142,7 +142,8 @@ module _ (words : List (String Global)) (rack : Racked) (before after : Outside)
     (unfailing : rack.unfailing 32 → ¬ rack.failed)
     (one_count : (m n : ℕ) → rack.took m → rack.took n → m ≡ n) where
   -- the end of a call whose words ask for this run, and for no other
-  module _ (command : Command) (line : Asks command words) (only : (other : Command) → Asks other words → other ≡ command) where
+  module _ (command : Command) (line : Asks command words) (only : (other : Command) → Asks other words → other ≡ command)
+      (made : IfMade command ((after.left ≡ before.left) × (after.source_faults ≡ before.source_faults))) where
     -- what a run promises whatever came of what is written
     whole : (s : Scenario) (Written : List ℕ → Type 0) → IsPosed command before.left after.left s
         → IsWholeBack rack command s ended.trails.items → OfText rack command s ended.trails.items Written
@@ -223,6 +224,14 @@ module _ (words : List (String Global)) (rack : Racked) (before after : Outside)
         × (before.sink_faults < after.sink_faults)
     at_cut (Some Write) told is = told
     at_cut _ told is = absurd (omega (arith, is))
+
+    -- where the scenario is made, nothing was asked of the source
+    unasked : (fault : Option Fault) → ended.status ≡ status_of fault → Tells fault → (seed calls : ℕ) → Asks (Load seed calls) words
+        → (after.left ≡ before.left) × (after.source_faults ≡ before.source_faults) × (ended.status ≢ 3)
+    unasked fault is told seed calls asked =
+        let same = subst (λ (k : Command). IfMade k ((after.left ≡ before.left) × (after.source_faults ≡ before.source_faults)))
+        (sym (only (Load seed calls) asked)) made in
+        (same.0, same.1, λ h. let rose = at_unread fault told (sym is ∙ h) in let level = same.1 in omega (arith, rose, level))
 
     -- but for 0, 4, 5 and 6 there are no trails
     no_trails : (fault : Option Fault) → Tells fault → ended.status ≡ status_of fault
@@ -361,6 +370,7 @@ module _ (words : List (String Global)) (rack : Racked) (before after : Outside)
           unracked = λ site h. subst (λ (f : Option Fault). Tells f) (sym named ∙ h) told;
           unfit = λ site cause place h. (subst (λ (f : Option Fault). Tells f) (sym named ∙ h) told).0;
           unfit_named = λ other s site cause place asked poses. names fault named is told s site cause place (these other s asked poses);
+          unasked_source = unasked fault is told;
           given_back = back;
           unfailing = unfailing;
           silent = silent;
@@ -469,6 +479,7 @@ module _ (words : List (String Global)) (rack : Racked) (before after : Outside)
           unracked = λ site h. absurd (let e = sym named ∙ h in cc);
           unfit = λ site cause place h. absurd (let e = sym named ∙ h in cc);
           unfit_named = λ command s site cause place asked poses within known why source ok. inr (inl is);
+          unasked_source = λ seed calls asked. (unread.0, unread.1, λ h. omega (arith, is, h));
           given_back = back;
           unfailing = unfailing;
           silent = λ not_done not_cut. same;
@@ -497,6 +508,7 @@ module _ (words : List (String Global)) (rack : Racked) (before after : Outside)
             unracked = λ site h. absurd (let e = sym named ∙ h in cc);
             unfit = λ site cause place h. absurd (let e = sym named ∙ h in cc);
             unfit_named = λ command s site cause place asked. absurd (nothing command asked);
+            unasked_source = λ seed calls asked. absurd (nothing (Load seed calls) asked);
             given_back = back;
             unfailing = unfailing;
             silent = λ not_done not_cut. same;
@@ -534,6 +546,7 @@ module _ (words : List (String Global)) (rack : Racked) (before after : Outside)
             unracked = λ site h. absurd (let e = sym named ∙ h in cc);
             unfit = λ site cause place h. absurd (let e = sym named ∙ h in cc);
             unfit_named = λ command s site cause place asked. absurd (nothing command asked);
+            unasked_source = λ seed calls asked. absurd (nothing (Load seed calls) asked);
             given_back = back;
             unfailing = unfailing;
             silent = λ not_done not_cut. absurd (not_done is);
@@ -557,6 +570,7 @@ module _ (words : List (String Global)) (rack : Racked) (before after : Outside)
             unracked = λ site h. absurd (let e = sym named ∙ h in cc);
             unfit = λ site cause place h. absurd (let e = sym named ∙ h in cc);
             unfit_named = λ command s site cause place asked. absurd (nothing command asked);
+            unasked_source = λ seed calls asked. absurd (nothing (Load seed calls) asked);
             given_back = back;
             unfailing = unfailing;
             silent = λ not_done not_cut. absurd (not_cut is);

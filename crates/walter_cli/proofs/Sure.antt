@@ -1,11 +1,11 @@
 -- What a call promises over a rack that tells its disks, whose disks have no bytes and never failed where they have no
 -- arm, and of which two calls for each site don't fail.
-use Rattle.std.proofs.Common.{◌≡◌, ℕ, ◌≤◌, List, [], ◌∷◌, ◌++◌, ◌⊎◌, ⊎_elim, suc, length, replicate, Option, Some, None, ap, sym, ◌∙◌, refl, subst, arith, inl, inr}
+use Rattle.std.proofs.Common.{◌≡◌, ℕ, ◌≤◌, List, [], ◌∷◌, ◌++◌, ◌⊎◌, ⊎_elim, suc, length, map, replicate, Option, Some, None, ap, sym, ◌∙◌, refl, subst, arith, inl, inr}
 use Rattle.std.specs.Prelude.{All, Contains, IfSome, String, slice_get}
 use Rattle.std.specs.Global.{Global}
 use Rattle.std.proofs.lemmas.List.Elements.{All-contains, All-weaker}
 use Rattle.walter_base.specs.declared.format.Format.{Format}
-use Rattle.walter_disk.specs.Disks.{DiskState}
+use Rattle.walter_disk.specs.Disks.{Arming, DiskState, asked}
 use Rattle.walter_disk.specs.declared.disk.Disk.{Ghosts}
 use Rattle.walter_engine.proofs.Laid.{for_header}
 use Rattle.walter_engine.specs.Begins.{HasNoRecord}
@@ -20,7 +20,7 @@ use Rattle.walter_cli.specs.declared.ended.Ended.{Ended}
 use Rattle.walter_cli.specs.declared.ended.Fault.{Fault}
 use Rattle.walter_cli.specs.declared.ended.Fault.TheVariants.{Memory, Rack, Journal}
 use Rattle.walter_cli.specs.declared.ended.JournalCause.{JournalCause}
-use Rattle.walter_cli.specs.Assurance.{Assures, IsSureRun, IsSureReport}
+use Rattle.walter_cli.specs.Assurance.{Assures, IsSureRun, IsSureReport, calls_begun_anew}
 use Rattle.walter_cli.specs.Headline.{Outside, HasNotBegun, HaveHeaders, Says, IsDiskOfRun, Runs, RunsWhole, IsRackFault, FailsEarly, Promise}
 use Rattle.walter_cli.specs.Racks.{RackAt, Racked, OfADisk, IsTold, Holds, AreSo, AreFirst, IsHanded, IsMore, IsUntaken, IsUnarmed, HasFailed, HasCause, racked}
 use Rattle.walter_cli.specs.Statuses.{status_of}
@@ -31,12 +31,12 @@ use Rattle.walter_cli.proofs.Causes.{none_has_cause}
 use Rattle.walter_cli.proofs.Driven.{driven_by_fewer}
 use Rattle.walter_cli.proofs.Giving.{of_both, numbered_has}
 
-none_of_none : {X : Type 0} (arms : Option (List X)) (all : List X) → all ≡ []
-    → IfSome arms (λ told. (more : List X) × (all ≡ told ++ more)) → IfSome arms (λ told. told ≡ [])
+none_of_none : (arms : Option (List Arming)) (all : List (ℕ × ℕ)) → all ≡ []
+    → IfSome arms (λ told. (more : List (ℕ × ℕ)) × (all ≡ map asked told ++ more)) → IfSome arms (λ told. told ≡ [])
 none_of_none None all none is = tt
-none_of_none {X = X} (Some told) all none is = by told (sym is.1 ∙ none)
+none_of_none (Some told) all none is = by told (sym is.1 ∙ none)
   where
-    by : (xs : List X) → xs ++ is.0 ≡ [] → xs ≡ []
+    by : (xs : List Arming) → map asked xs ++ is.0 ≡ [] → xs ≡ []
     by [] e = refl
     by (x ∷ xs) e = absurd (let l = ap length e in omega (arith, l))
 
@@ -91,6 +91,7 @@ module _ (words : List (String Global)) {D : Type 0} (g : Ghosts D) (first last 
     (promised : Promise words (racked g first last) before after ended)
     (told : (i : ℕ) → IsTold (racked g first last) i)
     (empty : (i : ℕ) → Holds (racked g first last) i (λ bytes. bytes ≡ []))
+    (anew : (s : Scenario) (i : ℕ) → (racked g first last).calls_begun (shape_of s) s.areas i ≡ Some (calls_begun_anew s))
     (many : 32 ≤ first.unfailing)
     (none_handed : first.handed ≡ Some [])
     (sound : (more : List (ℕ × D)) → last.handed ≡ Some more
@@ -194,8 +195,11 @@ module _ (words : List (String Global)) {D : Type 0} (g : Ghosts D) (first last 
     });
     arms = is.arms;
     disks = is.disks_given_back;
-    how_driven = driven_by_fewer is.command (λ i. IsTold rack i) (λ i. Unit {0}) is.scenario ended.trails.items is.arms (λ i all. told i)
-        is.run.how_driven;
+    calls = is.run.calls;
+    calls_begun = λ i below.
+        subst (λ (o : Option ℕ). IfSome o (λ made. is.run.calls i ≡ made)) (anew is.scenario i) (is.run.calls_begun i below);
+    how_driven = driven_by_fewer is.command (λ i. IsTold rack i) (λ i. Unit {0}) is.scenario is.run.calls ended.trails.items is.arms
+        (λ i all. told i) is.run.how_driven;
     bytes_written =
         let text = is.bytes_written in
         subst (λ (hs : List Format). Written (written_by is.command is.scenario hs ended.trails.items))
@@ -222,6 +226,7 @@ module _ (words : List (String Global)) {D : Type 0} (g : Ghosts D) (first last 
     unreadable = promised.unreadable;
     unread = promised.unread;
     cut = λ h. (done (AppendsFront before.holds after.holds) (promised.cut h), promised.failed h);
+    unasked_source = promised.unasked_source;
     never_unracked = λ h.
         let named = rack_of ended.fault (sym promised.status ∙ h) in
         let why = promised.unracked named.0 named.1 in
@@ -256,6 +261,7 @@ assured_early words rack at ended back untaken is named none = record {
   unreadable = λ place detail h. absurd (let e = sym named ∙ h in cc);
   unread = λ h. absurd (omega (arith, is, h));
   cut = λ h. absurd (omega (arith, is, h));
+  unasked_source = λ seed calls asked. (refl, refl, λ h. omega (arith, is, h));
   never_unracked = λ h. omega (arith, is, h);
   never_unfit = λ h. omega (arith, is, h);
   given_back = back;

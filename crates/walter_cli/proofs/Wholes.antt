@@ -17,10 +17,11 @@ use Rattle.walter_make.specs.Calls.{made_calls}
 use Rattle.walter_make.specs.Made.{made, made_catalog, made_client, made_container}
 use Rattle.walter_scenario.specs.declared.scenario.Scenario.{Scenario}
 use Rattle.walter_scenario.specs.Scenarios.{GivesAreas, GivesArms, GivesCapacity, GivesThreads, IsReading}
+use Rattle.walter_stream.specs.declared.source.Source.{Ghosts as SourceGhosts}
 use Rattle.walter_words.specs.declared.asked.Command.{Command}
 use Rattle.walter_words.specs.declared.asked.Command.TheVariants.{Play, Run, Load, Audit, Say}
 use Rattle.walter_cli.specs.Ending.{HasStepsFor, IsPlayable}
-use Rattle.walter_cli.specs.Words.{Asks, CanBeRun, IsPosed, but_for_steps}
+use Rattle.walter_cli.specs.Words.{Asks, CanBeRun, IfMade, IsPosed, but_for_steps}
 
 -- ---- a reading
 
@@ -135,3 +136,12 @@ posed_steps (Run trace disks) before after s posed = ap (λ (t : Scenario). t.st
 posed_steps (Load seed calls) before after s posed = tt
 posed_steps (Audit disks) before after s posed = posed
 posed_steps (Say text) before after s posed = posed
+
+-- where the scenario is made, what is the same source is known as it was
+pub made_unread : (command : Command) {S : Type 0} (s : SourceGhosts S) (old new : S) → IfMade command (new ≡ old)
+    → IfMade command ((s.left new ≡ s.left old) × (s.faults new ≡ s.faults old))
+made_unread (Play trace disks) s old new same = tt
+made_unread (Run trace disks) s old new same = tt
+made_unread (Load seed calls) {S = S} s old new same = (ap (λ (x : S). s.left x) same, ap (λ (x : S). s.faults x) same)
+made_unread (Audit disks) s old new same = tt
+made_unread (Say text) s old new same = tt

@@ -1,7 +1,9 @@
 -- What a user of the program may rest on: a call over disks in memory, which tell what they hold and fail only
 -- where the scenario arms them. Nothing here has a premise on disks.
-use Rattle.std.specs.Prelude.{◌≡◌, ◌≢◌, ◌<◌, ◌⊎◌, ℕ, List, [], count_by, map, replicate, Some, String, string_bytes}
+use Rattle.std.specs.Prelude.{◌≡◌, ◌≢◌, ◌<◌, ◌+◌, ◌⊎◌, ℕ, List, [], count_by, map, replicate, Some, String, string_bytes}
 use Rattle.std.specs.Global.{Global}
+use Rattle.walter_checkpoint.specs.Loads.{calls_of_load}
+use Rattle.walter_cluster.specs.Benches.{shape_of}
 use Rattle.walter_disk_memory.specs.MemoryRacks.{RackState, rack_of}
 use Rattle.walter_disk_memory.specs.contracts.memory_disk.MemoryDiskDisk.TheImpl.{ghosts as disk_ghosts}
 use Rattle.walter_disk_memory.specs.contracts.memory_rack.MemoryRackRack.TheImpl.{ghosts as rack_ghosts}
@@ -22,6 +24,7 @@ use Rattle.walter_cli.specs.Sources.{HasNoReading}
 use Rattle.walter_cli.specs.Words.{Asks, AskForNone, IsForText, IsPosed, IsRead, IsWrong, Poses, written_by}
 use Rattle.walter_words.specs.Words.{AsksForText}
 use Rattle.walter_words.specs.declared.asked.Command.{Command}
+use Rattle.walter_words.specs.declared.asked.Command.TheVariants.{Load}
 
 -- what is known of a rack in memory that was made for a call, with room for sixteen disks
 abbrev pub in_memory : RackState → Racked
@@ -42,13 +45,19 @@ pub record IsSureRun (words : List (String Global)) (rack : Racked) (before afte
       → count_by (λ e. is_faulty e.came.outcome) (trail_at trails i) ≡ 0
   pub disks : rack.all scenario.catalog.sites (λ i. IsDiskOfRun rack scenario trails i)
 
--- it was driven to its end, which armed the disks so, each disk has all its arms, and what was written of it is so: all
--- journals are new, so their headers name the scenario's format
+-- how many calls of a disk without bytes had been made once a site had begun over it: those of its load, and of a record
+abbrev pub calls_begun_anew : Scenario → ℕ
+calls_begun_anew s = calls_of_load (shape_of s) s.areas 0 + 4
+
+-- it was driven to its end from where all sites had begun, which armed the disks so, each disk has all its arms, and what was
+-- written of it is so: all journals are new, so their headers name the scenario's format
 pub record IsSureReport (words : List (String Global)) (rack : Racked) (before after : Outside)
     (trails : List (List Entry)) (Written : List ℕ → Type 0) : Type 0 where
   pub run : IsSureRun words rack before after trails
   pub arms : ArmsOfSites
-  pub how_driven : IsDrivenBy run.command (λ i. Unit {0}) run.scenario trails arms
+  pub calls : ℕ → ℕ
+  pub calls_begun : (i : ℕ) → i < run.scenario.catalog.sites → calls i ≡ calls_begun_anew run.scenario
+  pub how_driven : IsDrivenBy run.command (λ i. Unit {0}) run.scenario calls trails arms
   pub disks : rack.all run.scenario.catalog.sites (λ i. IsDiskOfWhole rack run.scenario trails arms i)
   pub bytes_written : Written (written_by run.command run.scenario
       (replicate run.scenario.catalog.sites run.scenario.format) trails)
@@ -74,6 +83,9 @@ pub record Assures (words : List (String Global)) (rack : Racked) (before after 
       → (IsSureReport words rack before after ended.trails.items (AppendsFront before.holds after.holds)
       ⊎ Says words rack before after ended.trails.items (AppendsFront before.holds after.holds))
       × (before.sink_faults < after.sink_faults)
+  -- where the scenario is made, the source is as it was: nothing was asked of it
+  pub unasked_source : (seed calls : ℕ) → Asks (Load seed calls) words
+      → (after.left ≡ before.left) × (after.source_faults ≡ before.source_faults) × (ended.status ≢ 3)
   -- 6 and 7 never come: disks in memory begin, and are given back
   pub never_unracked : ended.status ≢ 6
   pub never_unfit : ended.status ≢ 7

@@ -1,7 +1,8 @@
 -- What the parts of a call of the program come to.
 use Rattle.std.specs.Prelude.{◌≡◌, ◌<◌, ◌≤◌, ◌⊎◌, ◌^◌, ℕ, All, List, [], ◌++◌, Option, Some, None, IsSome, IfSome, length, slice_get}
 use Rattle.walter_cell.specs.Cells.{CellValue}
-use Rattle.walter_cluster.specs.Benches.{BenchValue, IsLaidFor, IsOf, IsToldAt, AreAllConnected, AreMet, arms_at, shape_of}
+use Rattle.walter_cluster.specs.Benches.{BenchValue, IsLaidFor, IsOf, IsToldAt, AreAllConnected, AreMet, arms_at, calls_at, shape_of}
+use Rattle.walter_cluster.specs.Builds.{AreCallsOnceBegun}
 use Rattle.walter_cluster.specs.Moments.{IsFirst, Moment, moment_of}
 use Rattle.walter_disk.specs.declared.disk.Disk.{Ghosts}
 use Rattle.walter_engine.specs.Begins.{HasNoRecord}
@@ -10,7 +11,7 @@ use Rattle.walter_engine.specs.declared.answers.BeginFault.TheVariants as unbegu
 use Rattle.walter_rules.specs.declared.entry.Entry.{Entry}
 use Rattle.walter_base.specs.Sizes.{most_in}
 use Rattle.walter_linked.specs.Catalogs.{IsWhole}
-use Rattle.walter_play.specs.Scripts.{AreArmed, EndsPlay, arms_of}
+use Rattle.walter_play.specs.Scripts.{AreArmedFirst, EndsPlay, arms_of}
 use Rattle.walter_scenario.specs.Parts.{IsArm, IsStep, IsAreas, IsCapacity, IsThreads}
 use Rattle.walter_scenario.specs.declared.scenario.Client.{Client}
 use Rattle.walter_scenario.specs.declared.scenario.Scenario.{Scenario}
@@ -67,7 +68,8 @@ HasStepsFor (Say text) s = ⊥
 -- the sites of a scenario were driven from this moment to that one: by all its steps; or by threads, behind its arms
 abbrev pub Drives : Command → (told : ℕ → Type 0) → Scenario → (old new : Moment) → Type 0
 Drives (Play trace disks) told s old new = EndsPlay told s old new
-Drives (Run trace disks) told s old new = IsDriven told ⊥ s new.trails × AreArmed old new (s.arms ++ arms_of s.steps)
+Drives (Run trace disks) told s old new = IsDriven told ⊥ s new.trails
+    × AreArmedFirst old new (s.arms ++ arms_of s.steps)
 Drives (Load seed calls) told s old new = EndsPlay told s old new
 Drives (Audit disks) told s old new = ⊥
 Drives (Say text) told s old new = ⊥
@@ -103,6 +105,7 @@ pub record IsBuilt {D : Type 0} (g : Ghosts D) (before after : RackAt D) (t : Sc
   pub first : IsFirst t.catalog.sites (moment_of g bench.cells)
   pub arms : (i : ℕ) (disk : D) → slice_get disks i ≡ Some disk
       → arms_at g bench.cells i ≡ (g.known disk).arms
+  pub calls : AreCallsOnceBegun g t disks (calls_at g bench.cells)
 
 -- why the sites of a scenario were not built over the disks of a rack: one could not be taken, or failed, or it has what no site can
 -- begin with; or memory ran out

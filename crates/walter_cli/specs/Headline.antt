@@ -7,11 +7,11 @@ use Rattle.walter_cell.specs.Entries.{HaveRisingStamps}
 use Rattle.walter_cluster.specs.Benches.{IsLaidFor, shape_of}
 use Rattle.walter_machine.specs.Comings.{is_faulty}
 use Rattle.walter_conn.specs.Sequences.{AreCalls}
-use Rattle.walter_disk.specs.Disks.{DiskState}
+use Rattle.walter_disk.specs.Disks.{Arming, DiskState, asked}
 use Rattle.walter_engine.specs.Begins.{HasNoRecord}
 use Rattle.walter_engine.specs.Contents.{MayHaveRecords}
 use Rattle.walter_linked.specs.Marks.{AreGotRight, AreMarksTrue}
-use Rattle.walter_play.specs.Scripts.{IsPlayed, all_arms}
+use Rattle.walter_play.specs.Scripts.{IsPlayed, all_arms, laid_after}
 use Rattle.walter_psi.specs.Legal.{IsLegal}
 use Rattle.walter_refinement.specs.Named.{AreNamed}
 use Rattle.walter_refinement.specs.Once.{StandsOnce}
@@ -116,17 +116,17 @@ pub record IsDiskOfRun (rack : Racked) (s : Scenario) (trails : List (List Entry
     (images : List ℕ → Type 0) : Type 0 where
   pub faults : count_by (λ e. is_faulty e.came.outcome) (trail_at trails i) ≤ known.faults
   pub records : IsTold rack i → LeavesRecords rack s i (trail_at trails i) images
-  pub first_arms : IfSome known.arms (λ arms. (more : List (ℕ × ℕ)) × (all_arms s i ≡ arms ++ more))
+  pub first_arms : IfSome known.arms (λ arms. (more : List (ℕ × ℕ)) × (all_arms s i ≡ map asked arms ++ more))
 
 -- the arms of the disk of each site, where it tells them
 abbrev pub ArmsOfSites : Type 0
-ArmsOfSites = ℕ → Option (List (ℕ × ℕ))
+ArmsOfSites = ℕ → Option (List Arming)
 
--- behind a whole run it has all these arms, and they are those to which the steps came
+-- behind a whole run it has all arms of the scenario, and they are these
 pub record IsDiskOfWhole (rack : Racked) (s : Scenario) (trails : List (List Entry)) (arms : ArmsOfSites) (i : ℕ)
     (known : DiskState) (images : List ℕ → Type 0) : Type 0 where
   pub of_run : IsDiskOfRun rack s trails i known images
-  pub all_told : IfSome known.arms (λ told. told ≡ all_arms s i)
+  pub all_told : IfSome known.arms (λ told. map asked told ≡ all_arms s i)
   pub arms_are : known.arms ≡ arms i
 
 -- the trails of a run of a scenario over disks without records: one for each site, which begins with the opening and
@@ -144,20 +144,32 @@ pub record IsRun (rack : Racked) (s : Scenario) (trails : List (List Entry)) : T
   pub disks : rack.handed s.catalog.sites (λ i. IsDiskOfRun rack s trails i)
   pub given_back : rack.failed ⊎ rack.all s.catalog.sites (λ i. IsDiskOfRun rack s trails i)
 
--- how the sites of a scenario were driven to these trails: by its steps, to the last, which armed the disks so; or by
--- threads, until nothing was left to do
-abbrev pub IsDrivenBy : Command → (told : ℕ → Type 0) → Scenario → List (List Entry) → ArmsOfSites → Type 0
-IsDrivenBy (Play trace disks) told s trails arms = IsPlayed told s trails arms
-IsDrivenBy (Run trace disks) told s trails arms = IsDriven told ⊥ s trails
-IsDrivenBy (Load seed calls) told s trails arms = IsPlayed told s trails arms
-IsDrivenBy (Audit disks) told s trails arms = ⊥
-IsDrivenBy (Say text) told s trails arms = ⊥
+-- when so many calls had been made of each disk it was armed by all arms of the scenario, before any other call of it
+abbrev pub AreLaidFirst : Scenario → (calls : ℕ → ℕ) → ArmsOfSites → Type 0
+AreLaidFirst s calls arms = (i : ℕ) → IfSome (arms i) (λ told. told ≡ map (laid_after (calls i)) (all_arms s i))
 
--- it was driven to its end; all disks were handed back, armed as it says
+-- How the sites of a scenario, once so many calls had been made of each disk, were driven to these trails, and the disks
+-- armed: by its steps, to the last; or by threads, until nothing was left to do, behind the arms.
+abbrev pub IsDrivenBy : Command → (told : ℕ → Type 0) → Scenario → (calls : ℕ → ℕ) → List (List Entry) → ArmsOfSites
+    → Type 0
+IsDrivenBy (Play trace disks) told s calls trails arms = IsPlayed told s calls trails arms
+IsDrivenBy (Run trace disks) told s calls trails arms = IsDriven told ⊥ s trails × AreLaidFirst s calls arms
+IsDrivenBy (Load seed calls_made) told s calls trails arms = IsPlayed told s calls trails arms
+IsDrivenBy (Audit disks) told s calls trails arms = ⊥
+IsDrivenBy (Say text) told s calls trails arms = ⊥
+
+-- these are the calls that had been made of each disk once all sites had begun, where the rack tells its disks
+abbrev pub AreCallsBegun : Racked → Scenario → (calls : ℕ → ℕ) → Type 0
+AreCallsBegun rack s calls = (i : ℕ) → i < s.catalog.sites
+    → IfSome (rack.calls_begun (shape_of s) s.areas i) (λ made. calls i ≡ made)
+
+-- it was driven to its end from where all sites had begun; all disks were handed back, armed as it says
 pub record IsWholeRun (rack : Racked) (command : Command) (s : Scenario) (trails : List (List Entry))
     (arms : ArmsOfSites) : Type 0 where
   pub run : IsRun rack s trails
-  pub how_driven : IsDrivenBy command (λ i. IsTold rack i) s trails arms
+  pub calls : ℕ → ℕ
+  pub calls_begun : AreCallsBegun rack s calls
+  pub how_driven : IsDrivenBy command (λ i. IsTold rack i) s calls trails arms
   pub disks : rack.handed s.catalog.sites (λ i. IsDiskOfWhole rack s trails arms i)
 
 -- the words ask for a run, and these are the trails of one of the scenario that is posed
@@ -274,6 +286,9 @@ pub record Promise (words : List (String Global)) (rack : Racked) (before after 
       → Asks command words → Poses command before.left s → site < s.catalog.sites → AreAllTold rack s.catalog.sites
       → IsFirstUnfit rack s site cause place → after.source_faults ≡ before.source_faults → rack.took s.catalog.sites
       → (ended.fault ≡ Some (fault.Journal site cause place)) ⊎ (ended.status ≡ 5) ⊎ FailsEarly rack ended.trails.items
+  -- where the scenario is made, the source is as it was: nothing was asked of it
+  pub unasked_source : (seed calls : ℕ) → Asks (Load seed calls) words
+      → (after.left ≡ before.left) × (after.source_faults ≡ before.source_faults) × (ended.status ≢ 3)
   -- whatever the status, each disk that was taken was handed back, and given back but for one at most for each fault of
   -- the rack; and one of which two calls for each site don't fail doesn't
   pub given_back : rack.balanced

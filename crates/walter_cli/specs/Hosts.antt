@@ -47,10 +47,11 @@ EndsInFolder folder words rack before after ended =
     × (AskForAudit words → AuditPromise (in_folder folder rack) before after ended)
 
 -- in memory where the words name no folder, or where memory is wanting before they are read; else over the files of the
--- folder that they name
+-- folder that they name, which is the rack's at the end too
 abbrev pub EndsOnHost : {A X : Type 0} → List (String Global) → UsedRack A X → (before after : Outside) → Ended
     → Type 0
 EndsOnHost words (Memory rack) before after ended =
     EndsInMemory words rack before after ended × (Name None words ⊎ (ended.status ≡ 5))
 EndsOnHost words (Folder rack) before after ended =
-    (folder : List ℕ) × Name (Some folder) words × EndsInFolder folder words rack before after ended
+    (folder : List ℕ) × Name (Some folder) words × (rack.folder ≡ Some folder)
+    × EndsInFolder folder words rack before after ended

@@ -1,5 +1,6 @@
 -- What is known of a rack before a run and after it, and why no site can begin with a disk.
 use Rattle.std.specs.Prelude.{◌≡◌, ◌≢◌, ◌+◌, ◌<◌, ◌≤◌, ℕ, List, [], ◌∷◌, ◌++◌, length, All, Contains, Option, None, Some, IfSome, IsSome}
+use Rattle.walter_cell.specs.Builds.{calls_once_begun}
 use Rattle.walter_checkpoint.specs.Areas.{Shape, IsForeign}
 use Rattle.walter_checkpoint.specs.Faults.{IsDamagedBook}
 use Rattle.walter_cluster.specs.Benches.{shape_of}
@@ -47,6 +48,9 @@ OfADisk = DiskState → (List ℕ → Type 0) → Type 0
 pub record Racked : Type 1 where
   -- the bytes that the disk of each site has before the run, where the rack tells its disks and the disk what it holds
   pub bytes : ℕ → Option (List ℕ)
+  -- how many calls of the disk of each site are made once a site has begun over it, with a journal of this shape and of so
+  -- many areas, where the rack tells its disks
+  pub calls_begun : Shape → (areas : ℕ) → ℕ → Option ℕ
   -- each disk that was handed back, of some site, is so
   pub each : (ℕ → OfADisk) → Type 0
   -- a disk was handed back as this site's, and is so
@@ -72,6 +76,11 @@ pub record Racked : Type 1 where
 abbrev pub bytes_of : {D : Type 0} (g : Ghosts D) → Option (Option (List ℕ) → ℕ → D) → ℕ → Option (List ℕ)
 bytes_of g None i = None
 bytes_of g (Some take) i = (g.known (take None i)).reads
+
+-- how many calls of the disk that is taken for a site are made once the site has begun, where they are told
+abbrev pub calls_begun_of : {D : Type 0} (g : Ghosts D) → Option (Option (List ℕ) → ℕ → D) → Shape → ℕ → ℕ → Option ℕ
+calls_begun_of g None shape areas i = None
+calls_begun_of g (Some take) shape areas i = Some (calls_once_begun g shape areas (take None i))
 
 -- what came behind the elements of a list between two moments is so, where they are told
 abbrev pub IsMore : {X : Type 0} → (before after : Option (List X)) → (List X → Type 0) → Type 0
@@ -111,6 +120,7 @@ AreGivenBack before after = IfSome before.given (λ old. IfSome after.given (λ 
 abbrev pub racked : {D : Type 0} (g : Ghosts D) → (before after : RackAt D) → Racked
 racked {D = D} g before after = record {
   bytes = λ i. bytes_of g before.disks i;
+  calls_begun = calls_begun_of g before.disks;
   each = λ P. IsHanded before after (AreSo g P);
   one = λ i P. IsHanded before after (λ more.
       (disk : D) × Contains more (i, disk) × P (g.known disk) (g.may_leave disk));

@@ -53,6 +53,14 @@ IsRead (Load seed calls) = ⊥
 IsRead (Audit disks) = ⊥
 IsRead (Say text) = ⊥
 
+-- it is so where the scenario is made
+abbrev pub IfMade : Command → Type 0 → Type 0
+IfMade (Play trace disks) P = Unit {0}
+IfMade (Run trace disks) P = Unit {0}
+IfMade (Load seed calls) P = P
+IfMade (Audit disks) P = Unit {0}
+IfMade (Say text) P = Unit {0}
+
 -- a scenario but for its steps
 abbrev pub but_for_steps : Scenario → Scenario
 but_for_steps s = record s { steps = [] }

@@ -25,6 +25,7 @@ pub fn audit<K: Sink, R: Rack>(
 ) -> Ended
     requires playable { IsPlayable scenario.now }
     ensures trails { result.trails.items ≡ [] }
+    ensures same_folder { R.folder rack.new ≡ R.folder rack.old }
     ensures given_back { (racked R.D.Disk (rack_at R.Rack rack.old) (rack_at R.Rack rack.new)).balanced }
     ensures unfailing { 32 ≤ R.unfailing rack.old → ¬ (R.faults rack.old < R.faults rack.new) }
     ensures kept { (racked R.D.Disk (rack_at R.Rack rack.old) (rack_at R.Rack rack.new)).each

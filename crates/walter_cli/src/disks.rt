@@ -26,6 +26,7 @@ pub fn take_all<R: Rack>(
         scenario.now) }
     ensures untaken { IfErr result (IsWhyUntaken (racked R.D.Disk (rack_at R.Rack rack.old) (rack_at R.Rack rack.new))
         scenario.now) }
+    ensures same_folder { R.folder rack.new ≡ R.folder rack.old }
     ensures kept { OnErr result ((racked R.D.Disk (rack_at R.Rack rack.old) (rack_at R.Rack rack.new)).each
         (IsKept (racked R.D.Disk (rack_at R.Rack rack.old) (rack_at R.Rack rack.new)))) }
 {
@@ -52,6 +53,7 @@ pub fn give_all<R: Rack>(rack: &mut R, disks: Vec<R::D>) -> Result<(), u8>
     ensures given { AreGiven
         (rack_at R.Rack rack.old) (rack_at R.Rack rack.new)
         0 disks.items }
+    ensures same_folder { R.folder rack.new ≡ R.folder rack.old }
     ensures ok { OnOk result (R.faults rack.new ≡ R.faults rack.old) }
     ensures lost { IfErr result (IsFirstLost
         (rack_at R.Rack rack.old) (rack_at R.Rack rack.new)

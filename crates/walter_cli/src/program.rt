@@ -1,8 +1,10 @@
 //! The program, by the words behind its name.
+ghost use Rattle.std.specs.Prelude.{◌≡◌, ℕ};
 ghost use Rattle.walter_cli.specs.Audits.{AuditPromise};
 ghost use Rattle.walter_cli.specs.Headline.{Promise, outside_at};
 ghost use Rattle.walter_cli.specs.Racks.{rack_at, racked};
-ghost use Rattle.walter_cli.specs.Words.{AskForAudit};
+ghost use Rattle.walter_cli.specs.Words.{AskForAudit, Asks};
+ghost use Rattle.walter_words.specs.declared.asked.Command.TheVariants as command;
 
 use crate::auditing::audit;
 use crate::ended::{Ended, Fault};
@@ -36,6 +38,9 @@ pub fn top<X: AllocGlobal + Threads + Wait + Sync, S: Source, K: Sink, R: Rack>(
         (outside_at S.Source K.Sink source.old sink.old)
         (outside_at S.Source K.Sink source.new sink.new)
         result }
+    // Where the scenario is made, nothing is asked of the source.
+    ensures unasked { (seed calls : ℕ) → Asks (command.Load seed calls) words.now → source.new ≡ source.old }
+    ensures same_folder { R.folder rack.new ≡ R.folder rack.old }
 {
     let alloc = rt.alloc();
     match command_of(alloc, words) {

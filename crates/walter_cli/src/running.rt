@@ -47,6 +47,7 @@ pub fn run<X: Threads + Wait + Sync, K: Sink, R: Rack>(
     requires playable { IsPlayable scenario.now }
     requires driven { HasStepsFor command.now scenario.now }
     ensures status { result.status ≡ status_of result.fault }
+    ensures same_folder { R.folder rack.new ≡ R.folder rack.old }
     ensures given_back { (racked R.D.Disk (rack_at R.Rack rack.old) (rack_at R.Rack rack.new)).balanced }
     ensures unfailing { 32 ≤ R.unfailing rack.old → ¬ (R.faults rack.old < R.faults rack.new) }
     ensures run { EndsRun (racked R.D.Disk (rack_at R.Rack rack.old) (rack_at R.Rack rack.new))
@@ -120,6 +121,7 @@ fn build_over<R: Rack>(
     rack: &mut R,
 ) -> Result<Bench<R::D, BytesSource, NullSink>, Fault>
     requires playable { IsPlayable scenario.now }
+    ensures same_folder { R.folder rack.new ≡ R.folder rack.old }
     ensures built { IfOk result (IsBuilt R.D.Disk (rack_at R.Rack rack.old) (rack_at R.Rack rack.new) scenario.now) }
     ensures unbuilt { IfErr result (EndsEarly (racked R.D.Disk (rack_at R.Rack rack.old) (rack_at R.Rack rack.new))
         scenario.now) }

@@ -2,7 +2,7 @@
 ghost use Rattle.std.specs.Prelude.{◌≡◌, IfOk, IfErr};
 ghost use Rattle.walter_cli.specs.Ending.{IsPlayable, IsPoseFault, IsTakeFault};
 ghost use Rattle.walter_cli.specs.Sources.{IsTaken};
-ghost use Rattle.walter_cli.specs.Words.{CanBeRun, IsPosed, but_for_steps};
+ghost use Rattle.walter_cli.specs.Words.{CanBeRun, IfMade, IsPosed, but_for_steps};
 
 use crate::ended::Fault;
 use std::alloc::Global;
@@ -16,6 +16,7 @@ pub fn pose<S: Source>(alloc: Global, command: &Command, source: &mut S) -> Resu
     requires { CanBeRun command.now }
     ensures ok { IfOk result (IsPosed command.now (S.left source.old) (S.left source.new)) }
     ensures playable { IfOk result IsPlayable }
+    ensures unasked { IfMade command.now (source.new ≡ source.old) }
     ensures fault { IfErr result
         (IsPoseFault command.now (S.left source.old) (S.left source.new) (S.faults source.old) (S.faults source.new)) }
 {

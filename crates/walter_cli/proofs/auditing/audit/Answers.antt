@@ -30,6 +30,7 @@ returns-in-Err g c =
     let why = c.in-Err.ensures in
     let ended = c.early.ensures in record {
       trails = ended.trails;
+      same_folder = c.take_all.ensures.same_folder;
       given_back = why.fault.given_back;
       unfailing = why.fault.unfailing;
       kept = why.kept;

@@ -10,7 +10,7 @@ use Rattle.walter_cli.proofs.disks.give_all.Goals as goal
 pub loop-disk-init : goal.loop-disk-init
 loop-disk-init g c =
     let a : RackAt g.row.R-D.Denot = rack_at g.R.Rack c.args.rack.now in
-    record { given = given_none a a a; next = refl; ok = refl; err = tt }
+    record { given = given_none a a a; folder = refl; next = refl; ok = refl; err = tt }
 
 pub loop-disk-preserved : goal.loop-disk-preserved
 loop-disk-preserved g c =
@@ -35,6 +35,7 @@ loop-disk-preserved g c =
     record {
       given = given_more a b d done disk c.give-given.result is.given given e.same_given handed e.same_taken e.same_disks e.faultless
           e.cause e.sure;
+      folder = e.same_folder ∙ is.folder;
       next = (let n = is.next in let m = length-append done (disk ∷ []) in omega (arith, n, m));
       ok = subst (λ (r : Result (Unit {0}) ℕ). OnOk r (d.faults ≡ a.faults)) (sym same) now.0;
       err = subst (λ (r : Result (Unit {0}) ℕ). IfErr r (IsFirstLost a d (done ++ disk ∷ []))) (sym same) now.1;

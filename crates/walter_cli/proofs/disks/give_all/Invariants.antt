@@ -10,6 +10,7 @@ invariant-loop-disk g l = record {
       (rack_at g.R.Rack l.fn.rack)
       (rack_at g.R.Rack l.rack)
       0 l.yielded;
+  folder : g.R.Rack.folder l.rack ≡ g.R.Rack.folder l.fn.rack;
   next : l.next ≡ length l.yielded;
   ok : OnOk l.lost (g.R.Rack.faults l.rack ≡ g.R.Rack.faults l.fn.rack);
   err : IfErr l.lost (IsFirstLost

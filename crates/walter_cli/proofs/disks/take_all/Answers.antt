@@ -131,6 +131,7 @@ loop-site-preserved g c =
           (taken_more g.R.D.Disk a b d disks disk is.taken
           (subst (λ (n : ℕ). IfSome b.disks (λ take. disk ≡ take None n)) (sym is.long) e.disk) e.fresh e.same_disks e.same_given
           e.same_handed e.taken e.faultless (λ some. (c.take.ensures.sure some).1));
+      folder = e.same_folder ∙ is.folder;
       long = (let l = ap length longer in let m = length-append disks (disk ∷ []) in let n = is.long in omega (arith, l, m, n));
       room = (let r = is.room in let same = c.push_reserved.ensures.capacity in omega (arith, r, same));
     }

@@ -9,6 +9,7 @@ invariant-loop-site g l = record {
       (rack_at g.R.Rack l.fn.rack)
       (rack_at g.R.Rack l.rack)
       l.disks.items;
+  folder : g.R.Rack.folder l.rack ≡ g.R.Rack.folder l.fn.rack;
   long : length l.disks.items ≡ l.site;
   room : l.sites ≤ vec_capacity l.disks;
 }

@@ -31,6 +31,7 @@ returns-in-Ok-Some g c =
     let made = c.over-rack.ensures ∙ ap (λ (path : List ℕ). fresh_rack (Some path) 0) c.into_string.ensures in (
       c.in-Ok-Some.folder,
       rw c.in-Ok-Some.field-0-is at c.in-Ok-Some.ensures,
+      c.top-ended.ensures.same_folder ∙ ap (λ (rack : RackState). rack.folder) made,
       (
         λ no_audit. of_made c.args.words.now c.in-Ok-Some.folder c.over-rack.result c.top-ended.new.rack _ _ c.top-ended.result made
             (c.top-ended.ensures.promise no_audit),

@@ -1,18 +1,18 @@
 use Rattle.std.proofs.Common.{rules, map, refl, ap, sym, ◌∙◌, ◌≡◌, ℕ, List, Option, subst, arith, inl, inr}
 use Rattle.std.specs.Prelude.{string_bytes}
 use Rattle.walter_words.specs.declared.asked.Command.{Command}
-use Rattle.walter_words.specs.declared.asked.Command.TheVariants.{Audit}
+use Rattle.walter_words.specs.declared.asked.Command.TheVariants.{Audit, Load}
 use Rattle.walter_cli.specs.declared.ended.Fault.TheVariants.{Memory}
 use Rattle.walter_cli.specs.Audits.{IsKept}
 use Rattle.walter_words.specs.Words.{AsksFor, IsText}
 use Rattle.walter_cli.specs.Racks.{RackAt, rack_at, racked}
 use Rattle.walter_cli.specs.Statuses.{status_of}
-use Rattle.walter_cli.specs.Words.{Asks, AskForNone}
+use Rattle.walter_cli.specs.Words.{Asks, AskForNone, IfMade}
 use Rattle.walter_cli.proofs.Early.{each_none, untaken_before}
 use Rattle.walter_cli.proofs.Judging.{promise_audit, promise_unread}
 use Rattle.walter_cli.proofs.Giving.{none_balances, one_count}
 use Rattle.walter_cli.proofs.Runs.{promise_run, promise_fault, promise_memory, promise_text, promise_usage}
-use Rattle.walter_cli.proofs.Wholes.{can_be_run, posed_steps}
+use Rattle.walter_cli.proofs.Wholes.{can_be_run, made_unread, posed_steps}
 use Rattle.walter_cli.proofs.program.top.Goals as goal
 
 -- what is wrong with the words
@@ -118,6 +118,7 @@ returns-in-Ok-pose-clause-promise g c = λ no_audit.
     let line : Asks c.in-Ok.command c.args.words.now = elim c.in-Ok.ensures.asked [ inl asks ↦ asks | inr text ↦ absurd (running text) ] in
     promise_run c.args.words.now (racked g.R.D.Disk before after) _ _ c.run.result c.run.ensures.status c.run.ensures.given_back
     c.run.ensures.unfailing (one_count g.R.D.Disk before after) c.in-Ok.command line (λ other asks. sym (c.in-Ok.ensures.given other asks))
+    (made_unread c.in-Ok.command g.S.Source c.args.source.now c.pose.new.source c.pose.ensures.unasked)
     c.in-Ok-pose.scenario c.run.result.fault refl c.in-Ok-pose.ensures.ok c.run.ensures.run
 
 -- no scenario was posed
@@ -135,4 +136,33 @@ returns-clause-promise g c = λ no_audit.
     promise_fault c.args.words.now (racked g.R.D.Disk at at) _ _ c.early-in-Err-pose.result
     (ended.status ∙ ap status_of (sym ended.fault)) (none_balances g.R.D.Disk at at refl refl refl (omega arith))
     (λ many rose. omega (arith, rose)) (one_count g.R.D.Disk at at) c.in-Ok.command line (λ other asks. sym (c.in-Ok.ensures.given other asks))
+    (made_unread c.in-Ok.command g.S.Source c.args.source.now c.pose.new.source c.pose.ensures.unasked)
     c.in-Err-pose.fault ended.fault ended.trails (untaken_before g.R.D.Disk at at refl refl) refl c.in-Err-pose.ensures.fault
+
+-- where the scenario is made, nothing is asked of the source
+pub returns-in-Err-Usage-clause-unasked : goal.returns-in-Err-Usage-clause-unasked
+returns-in-Err-Usage-clause-unasked g c = λ seed calls asks. refl
+
+pub returns-in-Err-Memory-clause-unasked : goal.returns-in-Err-Memory-clause-unasked
+returns-in-Err-Memory-clause-unasked g c = λ seed calls asks. refl
+
+pub returns-in-Ok-Say-clause-unasked : goal.returns-in-Ok-Say-clause-unasked
+returns-in-Ok-Say-clause-unasked g c = λ seed calls asks. refl
+
+pub returns-in-Ok-take_scenario-clause-unasked : goal.returns-in-Ok-take_scenario-clause-unasked
+returns-in-Ok-take_scenario-clause-unasked g c = λ seed calls asks.
+    (let e = sym c.in-Ok-Audit.field-0-is ∙ c.in-Ok-Audit.ensures.given (Load seed calls) asks in absurd cc)
+
+pub returns-in-Ok-Audit-clause-unasked : goal.returns-in-Ok-Audit-clause-unasked
+returns-in-Ok-Audit-clause-unasked g c = λ seed calls asks.
+    (let e = sym c.in-Ok-Audit.field-0-is ∙ c.in-Ok-Audit.ensures.given (Load seed calls) asks in absurd cc)
+
+pub returns-in-Ok-pose-clause-unasked : goal.returns-in-Ok-pose-clause-unasked
+returns-in-Ok-pose-clause-unasked g c = λ seed calls asks.
+    subst (λ (k : Command). IfMade k (c.pose.new.source ≡ c.args.source.now)) (c.in-Ok.ensures.given (Load seed calls) asks)
+    c.pose.ensures.unasked
+
+pub returns-clause-unasked : goal.returns-clause-unasked
+returns-clause-unasked g c = λ seed calls asks.
+    subst (λ (k : Command). IfMade k (c.pose.new.source ≡ c.args.source.now)) (c.in-Ok.ensures.given (Load seed calls) asks)
+    c.pose.ensures.unasked

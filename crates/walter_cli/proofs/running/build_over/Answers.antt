@@ -41,6 +41,7 @@ returns-in-Ok-build-clause-built g c =
       met = built.met;
       first = built.first (λ i disk at. (was.1.fresh i disk at).unarmed);
       arms = λ i disk at. let left = built.leaves i disk at in arms_built g.R.D.Disk c.args.scenario.now c.in-Ok-build.bench i disk left.0 left.1 left.2;
+      calls = built.calls;
     }
 
 pub returns-in-Err-clause-unbuilt : goal.returns-in-Err-clause-unbuilt
