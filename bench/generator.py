@@ -23,7 +23,7 @@ from spelled import frame, on_set, record_of, write
 
 CONTAINERS = [[1, "regular", 0], [2, "cset", 0], [7, "regular", 0]]
 CUT = [b"", b"\2\0\0", b"\3" + bytes(12) + b"\0\0\0\5abc", b"\x0a" + bytes(12)]
-BAD_BODIES = CUT + [b"\0", b"\x0b", b"\1\0", b"\4" + bytes(21)]
+BAD_BODIES = CUT + [b"\0", b"\x10", b"\1\0", b"\4" + bytes(21)]
 BAD_ENDS = [b"\0\0", struct.pack(">I", 70000) + b"\1", struct.pack(">I", 9) + b"\1"]
 START, COMMIT, ABORT = (bytes([operation]) for operation in (model.START, model.COMMIT, model.ABORT))
 CHOICES = [0, 1, 1, 2, 7, 256, 257]
