@@ -21,7 +21,7 @@ REFUSALS = {
     15: "no such transaction was started",
     18: "it can't be handed to that site",
     20: "the token is of another number of sites",
-    21: "it is a friend list, which changes together with another one alone",
+    21: "the set is a friend list, which changes together with another one alone",
     22: "the two are one person",
     23: "there are no friend lists",
 }
