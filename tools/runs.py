@@ -131,6 +131,13 @@ class Lock:
         self.site, self.name, self.objects, self.begins, self.ends = site, name, objects, moment, None
 
 
+class Home:
+    """A container that is at home at a site, from a moment on or from the start, up to another if it was given away."""
+
+    def __init__(self, site, container, begins=None):
+        self.site, self.container, self.begins, self.ends = site, container, begins, None
+
+
 class Slow:
     """A slow commit of this site: its transaction, what it wants of each site, whom it asks, who said YES, and who confirmed its
     RELEASE."""
@@ -150,6 +157,8 @@ class Site:
         self.slows, self.locks, self.over, self.all_locks = {}, {}, set(), []
         # Where each container is preferred by this site's log, and at which sites each own commit is to be held.
         self.homes, self.placed = {number: site for number, (_, site) in scenario.containers.items()}, {}
+        # The stays of containers that are at home here.
+        self.stays = [Home(me, number) for number, site in self.homes.items() if site == me]
         self.floors, self.flight, self.is_upgraded = (0, 0), None, False
         self.go_down()
 
@@ -182,10 +191,19 @@ class Site:
         return {site for kind, where, what in updates
                 for site in ((self.homes.get(where, 0), what) if kind == "move" else (self.home(where),))}
 
+    def hand_over(self, transaction, moment):
+        """What a commit hands over is at home elsewhere from then on, by this site's log."""
+        for container, to in reports.moves_of(transaction):
+            if self.homes.get(container) == self.me != to:
+                next(one for one in reversed(self.stays) if one.container == container).ends = moment
+            elif self.homes.get(container) != self.me == to:
+                self.stays.append(Home(self.me, container, moment))
+            self.homes[container] = to
+
     def own(self, record, moment):
         self.placed[record.number] = self.places(record.transaction.updates)
         self.keep(self.me, record)
-        self.homes.update(reports.moves_of(record.transaction))
+        self.hand_over(record.transaction, moment)
         self.committed[self.me] = record.number
         if record.transaction.slow in self.slows:
             self.end(record.transaction.slow, moment, "decided")
@@ -202,7 +220,7 @@ class Site:
     def see(self, record, moment):
         self.committed[record.site] = record.number
         transaction = self.held.get((record.site, record.number))
-        self.homes.update(reports.moves_of(transaction))
+        self.hand_over(transaction, moment)
         if transaction and transaction.slow:
             self.let_go(record.site, transaction.slow, moment)
 
@@ -453,6 +471,12 @@ class Run:
             told[receiver, kind] += 1
             lane.append(Packet(moment.site, receiver, len(lane) + 1, kind, says, moment))
             moment.sends.append(lane[-1])
+
+    def stays(self):
+        """Where those containers were at home that were handed over."""
+        stays = [stay for site in self.sites for stay in site.stays]
+        moved = {stay.container for stay in stays if stay.begins or stay.ends}
+        return [stay for stay in stays if stay.container in moved]
 
     def locks(self):
         return [lock for site in self.sites for lock in site.all_locks]
