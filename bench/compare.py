@@ -25,6 +25,7 @@ import itertools
 import json
 import os
 import random
+import re
 import subprocess
 import sys
 import tempfile
@@ -209,11 +210,15 @@ TRIED = {"handovers": ({}, handover(1, 1)), "tokens": ({}, bytes([TOKEN])),
 
 
 def does_know(program, what):
-    """Whether a program knows handovers, tokens or friend lists."""
+    """Whether a program knows handovers, tokens or friend lists. One that can't be run knows nothing."""
     keys, body = TRIED[what]
     made = json.dumps({**EMPTY, "clients": [[0, frame(body).hex()]], "steps": [["call", 0]], **keys})
-    tried = subprocess.run([program, "play"], input=made, capture_output=True, text=True)
-    return tried.returncode == 0 and frame(refusal(8)).hex()[8:] not in tried.stdout.split("\n")[1]
+    try:
+        tried = subprocess.run([program, "play"], input=made, capture_output=True, text=True)
+    except OSError:
+        return False
+    reply = re.search(" replies 1 [0-9a-f]{8}([0-9a-f]+)", tried.stdout)
+    return reply is not None and not reply[1].startswith(refusal(8).hex())
 
 
 def compare(words, name, source, expected):
