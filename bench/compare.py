@@ -350,7 +350,7 @@ def main():
     for key, known in ("areas", areas or words.one_area), ("room", room), ("format", formats):
         if not known:
             print(NO_KEY.format(key))
-    known = [what for what in MORE if program is None or does_know(program, what)]
+    known = [what for what in MORE if program is None or not words.scenarios or does_know(program, what)]
     for what in MORE:
         if what not in known:
             print(f"the program knows no {what}: no scenario has any")
