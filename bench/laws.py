@@ -23,6 +23,11 @@ RULES = "walter_rules/specs/"
 ALLOWED = "walter_rules/proofs/DeliveriesAllowed.antt"
 TESTS = "walter_rules/proofs/RuleTests.antt"
 FOLLOWED = "walter_alone/proofs/Followed.antt"
+CALLED = "walter_rules/proofs/CallsAllowed.antt"
+FRIENDS = "walter_base/specs/Friends.antt"
+STARTS_BEHIND = """quiet (Given (Call client (Ok (StartAt token)))) None (Replied (Started (next_tid i S.knows)))
+        (IsKind.starts client (Ok (StartAt token)) up has (IsStartCall.of_token token))
+"""
 COMMITTED_ROW = """abbrev pub committed_row : Knowledge → ObjId → List Held
 committed_row K oid = filter (λ h. nat_le h.seq (K.committed h.tx.tid.site)) (row oid K.log)
 
@@ -53,6 +58,17 @@ CHANGES = {
     ],
     "a commit is durable where the preferred sites of what it changed haven't got it": [
         (RULES + "Marks.antt", "option_map_or (is_at_homes catalog i K q) (commit_at i q K.log) true", "true"),
+    ],
+    "a StartAt starts whatever its token sees": [
+        (RULES + "Calls.antt", "starts_unless i K (Some refusal) = refuses refusal",
+         "starts_unless i K (Some refusal) = answers (Started (next_tid i K))"),
+        (RULES + "Allowed.antt", "of_token : (token : List ℕ) → Covers K.committed token → IsStartCall",
+         "of_token : (token : List ℕ) → IsStartCall"),
+        (CALLED, "(IsStartCall.of_token token (none_behind catalog S.knows token wide none)))", "(IsStartCall.of_token token))"),
+        (CALLED, "refused client (Ok (StartAt token)) refusal\n", STARTS_BEHIND),
+    ],
+    "a Befriend or an Unfriend changes one side": [
+        (FRIENDS, "both p = p.0 ∷ p.1 ∷ []", "both p = p.0 ∷ []"),
     ],
     "a NO names any lock": [
         (RULES + "Deliveries.antt", "if is_unseen K start owner then No (LockedThere oid owner) else Later",
