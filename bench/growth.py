@@ -493,7 +493,8 @@ def move_lines(program):
     for count in MOVES:
         took = seconds_of_moves(program, Moves(count).scenario())
         first = first or took / count
-        yield f"{count:,} handovers of {CONTAINERS} containers: {took:.3f} s, {microseconds(took, count, 'a handover')}; ratio {took / count / first:.2f}"
+        yield (f"{count:,} handovers of {CONTAINERS} containers: {took:.3f} s, {microseconds(took, count, 'a handover')}; "
+               f"ratio {took / count / first:.2f}")
 
 
 # The command

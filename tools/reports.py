@@ -26,8 +26,8 @@ Report = namedtuple("Report", "sites tolerated clients lines entries")
 SiteLine = namedtuple("SiteLine", "place up epoch events records got committed log")
 # A record: its kind, and of these what it has. `site` is another site, `number` an epoch, a commit, a slow commit, or a format.
 Record = namedtuple("Record", "kind site number transaction name objects marks", defaults=(None,) * 6)
-# An update is its kind, `write`, `setadd` or `setdel`, the object, and its bytes or its id; or `move`, a container, and the site that
-# it is handed to.
+# An update is its kind, `write`, `setadd` or `setdel`, the object, and its bytes or its id; or `move`, a container, and the site
+# that it is handed to.
 Transaction = namedtuple("Transaction", "name slow snapshot updates")
 Reply = namedtuple("Reply", "kind fields")
 # The summary of a load: how many replies there were of each kind, and the lines of its sites, of which `log` is a count.

@@ -464,7 +464,8 @@ class Script:
             self.items.append(Turn(self.place, client, LEVEL_OF_NONE, True))
         elif tokens[:2] == ["token", "as"]:
             if len(tokens) != 3 or not re.fullmatch(NAME, tokens[2]):
-                raise Unfit(" ".join(tokens[2:]), "a name of the token: letters, digits, _ and -, no digit first", "NAME: token as TOKEN")
+                wants = "a name of the token: letters, digits, _ and -, no digit first"
+                raise Unfit(" ".join(tokens[2:]), wants, "NAME: token as TOKEN")
             self.tokens.add(tokens[2])
             self.items.append(Turn(self.place, client, frame_of("token"), keeps=tokens[2]))
         elif tokens[:2] == ["start", "at"] and len(tokens) == 3 and re.fullmatch(NAME, tokens[2]):
@@ -480,8 +481,8 @@ class Script:
         if tokens[0] not in ("befriend", "unfriend"):
             return tokens
         if tokens[1] != str(self.friends):
-            wants = "no container, since no line friends is there" if self.friends is None else f"{self.friends}, which line friends names"
-            raise Unfit(tokens[1], wants, form_of(tokens[0]))
+            there = f"{self.friends}, which line friends names"
+            raise Unfit(tokens[1], "no container: there is no line friends" if self.friends is None else there, form_of(tokens[0]))
         return [tokens[0], *tokens[2:]]
 
     def take(self, line):
@@ -693,13 +694,22 @@ def read(text):
     return read_script(text).scenario()
 
 
+def named_turn(item):
+    """What a turn says by name, if it does."""
+    if item.last:
+        return "level last"
+    if item.keeps:
+        return f"token as {item.keeps}"
+    return f"start at {item.at}" if item.at else None
+
+
 def line_of(item, names):
     """The lines that say an item of a script, whose clients have these names."""
     if isinstance(item, Sent):
         return [f"{names[item.client]}: bytes {item.sent.hex()}"]
     if isinstance(item, Turn):
-        by_name = "level last" if item.last else f"token as {item.keeps}" if item.keeps else f"start at {item.at}" if item.at else None
-        return [f"{names[item.client]}: {by_name}"] if by_name else turn_lines(names[item.client], item.frame)
+        said = named_turn(item)
+        return [f"{names[item.client]}: {said}"] if said else turn_lines(names[item.client], item.frame)
     if isinstance(item, Step):
         return [words_of_step(*item.made)]
     here, there, kind, says, again = item.fields

@@ -310,7 +310,8 @@ def behind(moment):
         elif entry.wrote and entry.wrote.kind == "SlowBegin":
             said.append(f"the slow commit {entry.wrote.number} begins")
         elif entry.event[2] == "handover" and entry.wrote:
-            said.append(f"site {moment.site} takes container %d to be at site %d from now on" % reports.moves_of(entry.wrote.transaction)[0])
+            ((container, to),) = reports.moves_of(entry.wrote.transaction)
+            said.append(f"site {moment.site} takes container {container} to be at site {to} from now on")
     if entry.kept:
         said.append(f"found {record(entry.kept, moment.site)}")
     if entry.dropped:
