@@ -26,6 +26,8 @@ from reports import require
 Own = namedtuple("Own", "site index number transaction")
 # Which kind of container the updates of a kind are of.
 KINDS = {"write": "regular", "setadd": "cset", "setdel": "cset"}
+# The kind of an update that hands a container over, and is of no object.
+MOVE = "move"
 
 
 def writes_of(transaction):
@@ -41,7 +43,9 @@ class Told:
 
     def __init__(self, scenario, me, form):
         self.me, self.count, self.form = me, scenario["sites"], form
-        self.containers = {number: (kind, site) for number, kind, site in scenario["containers"]}
+        self.containers = {number: kind for number, kind, _ in scenario["containers"]}
+        # Where each container is preferred: by the scenario, and then by the last handover of it that is committed here.
+        self.homes = {number: site for number, _, site in scenario["containers"]}
         self.epoch, self.got, self.committed = 0, [0] * self.count, [0] * self.count
         # The commits that were received; the last slow commit of this site, and those that are undecided.
         self.received, self.last, self.undecided = {}, 0, {}
@@ -53,10 +57,14 @@ class Told:
         return site != self.me and site < self.count
 
     def is_declared(self, transaction):
-        return all(self.containers.get(oid[0], (None,))[0] == KINDS[kind] for kind, oid, _ in transaction.updates)
+        return all(where in self.containers and what < self.count if kind == MOVE else self.containers.get(where[0]) == KINDS[kind]
+                   for kind, where, what in transaction.updates)
 
     def is_here(self, oid):
-        return self.containers.get(oid[0]) == ("regular", self.me)
+        return self.containers.get(oid[0]) == "regular" and self.homes[oid[0]] == self.me
+
+    def hand_over(self, transaction):
+        self.homes.update((container, to) for kind, container, to in transaction.updates if kind == MOVE)
 
     def lock(self, part, objects):
         self.locks[part] = objects
@@ -89,6 +97,7 @@ class Told:
         require(self.is_declared(transaction))
         require(transaction.slow == 0 or self.undecided.pop(transaction.slow, None) == transaction)
         self.unlock((self.me, transaction.slow))
+        self.hand_over(transaction)
         self.got[self.me] += 1
         self.committed[self.me] += 1
 
@@ -104,6 +113,7 @@ class Told:
         require(self.is_peer(site) and number == self.committed[site] + 1 and number <= self.got[site])
         transaction = self.received[site, number]
         require(covers(self.committed, transaction.snapshot))
+        self.hand_over(transaction)
         if transaction.slow:
             self.end((site, transaction.slow))
         self.committed[site] += 1

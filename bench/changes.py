@@ -13,6 +13,8 @@ from spelled import GOT, OWN, SLOW_BEGIN
 # Where a record's transaction begins, by its first byte; how long its name is, and where in it the snapshot stands.
 BEGINS = {OWN: 9, GOT: 10, SLOW_BEGIN: 9}
 NAME, SNAPSHOT = 13, 21
+# How many bytes a handover has among the updates.
+MOVE_SIZE = 6
 MOST = (1 << 64) - 1
 
 # The place of a body.
@@ -103,6 +105,24 @@ def change_update(made):
     return place
 
 
+def move_elsewhere(made):
+    """A handover goes to another site. Its transaction has no other update, so the site is the record's last byte."""
+    place = made.one_of([place for place in made.at(OWN) if is_move(made, place)])
+    for one in made.and_received(place) if place else ():
+        body = made.body(one)
+        made.replace(one, len(body) - 1, bytes([(body[-1] + 1) % (len(made.sites) + 1)]))
+    return place
+
+
+def is_move(made, place):
+    """Whether a commit's updates are one handover: their number, a kind, a container and a site."""
+    body = made.body(place)
+    form = made.forms[place.site][place.index]
+    vector = 64 if form == 1 else 1 + 8 * len(made.sites)
+    begins = BEGINS[OWN] + SNAPSHOT + vector
+    return len(body) == begins + 2 + MOVE_SIZE and body[begins : begins + 3] == b"\0\1\4"
+
+
 def change_byte(made):
     place = made.one_of([place for place in made.at() if made.body(place)])
     if place:
@@ -119,6 +139,7 @@ CHANGES = {
     "a start lowered": lower_start,
     "a name twice": name_twice,
     "an update changed": change_update,
+    "a handover elsewhere": move_elsewhere,
     "a byte changed": change_byte,
 }
 

@@ -5,9 +5,10 @@ They are those of generator.py: of one site and of several, up to sixteen, over 
 format, some by a link, one of eleven with transactions that stay open while rows may be folded, one of fourteen made to come to a
 limit; with --several those of two sites and more alone, as many as are asked for. Where the program refuses the key `areas`, and
 with --one-area, none has it; nor `room` where the program refuses that, nor `format`, an upgrade or more than eight sites where it
-refuses `format`. Says how often each reply, reason of a refusal, outcome, record and packet was met, what the pumps did and the link
-chose, what restarts did with areas, what folds would have met, and each limit, with a number at it and with one above it; and which
-of these were not met. Then some made scenarios of the command `load` are played, and their summaries compared. Ends with status 1
+refuses `format`; and where it doesn't know handovers, tokens or the key `friends` no client has any. Says how often each reply,
+reason of a refusal, outcome, record and packet was met, what the pumps did and the link chose, what restarts did with areas, what
+became of handovers, what folds would have met, and each limit, with a number at it and with one above it; and which of these were
+not met. Then some made scenarios of the command `load` are played, and their summaries compared. Ends with status 1
 where a scenario differs, and prints its seed and the first line that does.
 
 Each scenario is played once more, over file disks, and its journals are audited: they are to tell a legal history, by
@@ -24,6 +25,7 @@ import itertools
 import json
 import os
 import random
+import re
 import subprocess
 import sys
 import tempfile
@@ -36,15 +38,18 @@ import folds
 import journals
 import loads
 import model
-from generator import scenario
+from generator import MORE, scenario
 from spelled import *
 
 TOP = os.path.join(os.path.dirname(os.path.abspath(__file__)), "..")
 RECORDS = ["Boot", "Own", "Got", "Seen", "Prepared", "Released", "SlowBegin", "SlowEnd", "Marks", "Format"]
-KINDS_OF_REPLY = ["Started", "Value", "Done", "Set", "Count", "Committed", "Aborted", "Deciding", "Level", "Ended", "Unsure"]
-CAUSES = {MODIFIED: "modified", LOCKED: "locked", ASKED: "as asked", DEAD: "over"}
-# All replies but refusals, and all reasons of a refusal that docs/FORMATS.md has but for want of memory.
-REPLIES = [kind for kind in KINDS_OF_REPLY if kind not in ("Aborted", "Level")]
+KINDS_OF_REPLY = ["Started", "Value", "Done", "Set", "Count", "Committed", "Aborted", "Deciding", "Level", "Ended", "Unsure", "Token"]
+CAUSES = {MODIFIED: "modified", LOCKED: "locked", ASKED: "as asked", DEAD: "over", MOVING: "moving"}
+# Of an abort the causes by their bytes.
+ABORTS = {MODIFIED: "modified", LOCKED: "locked", ASKED: "as asked", 4: "moving"}
+# All replies but refusals, and all reasons of a refusal that docs/FORMATS.md has but for want of memory, where no client hands
+# over, starts at a token, or makes friends.
+REPLIES = [kind for kind in KINDS_OF_REPLY if kind not in ("Aborted", "Level", "Token")]
 REPLIES += ["Aborted modified", "Aborted locked", "Aborted as asked", *(f"Level {number}" for number in range(6))]
 REPLIES += [f"refusal {number}" for number in range(1, 16) if number != 13]
 # What may come of each event but a call; a packet that brings no record meets no fault of the disk and no full journal.
@@ -81,6 +86,16 @@ AREAS = ["load fails", "pack into A", "pack into B", "pack fails before the swit
 FORMATS = [f"upgrade {outcome}" for outcome in ("taken", "passed", "failed", "full", "down")]
 FORMATS += [f"Format {how}" for how in ("stable", "in flight", "found")]
 FORMATS += [f"sites {number}" for number in range(9, 17)]
+# What comes of handovers, of tokens and of friend lists: the answers of their own, and what those of other requests are to them.
+# A handover is found by its records, and the lists by the two updates that go in together.
+OF_MORE = {
+    "handovers": ["Handover Committed", "Handover Unsure", *(f"Handover refusal {number}" for number in (1, 9, 10, 16, 17, 18)),
+                  "Aborted moving", "VOTE NO moving", *(f"Move {how}" for how in ("stable", "in flight", "found")),
+                  "Move received", "Move committed elsewhere"],
+    "tokens": ["Token", "Token refusal 9", "StartAt Started", *(f"StartAt refusal {number}" for number in (6, 7, 9, 19, 20))],
+    "friends": [f"{word} {answer}" for word in ("Befriend", "Unfriend") for answer in ("Done", "refusal 5", "refusal 9", "refusal 22")]
+               + ["Befriend refusal 3", "Befriend refusal 23", "SetAdd refusal 21"],
+}
 # What is audited stands in memory for a moment. Of two areas half of the capacity is written before a site begins, so
 # they have no more than this.
 FAST = "/dev/shm" if os.path.isdir("/dev/shm") else None
@@ -96,7 +111,7 @@ def reply_met(reply):
     if reply[0] == REFUSED:
         return f"refusal {reply[1]}"
     kind = KINDS_OF_REPLY[reply[0] - STARTED]
-    return f"Aborted {CAUSES[reply[1]]}" if kind == "Aborted" else f"Level {reply[1]}" if kind == "Level" else kind
+    return f"Aborted {ABORTS[reply[1]]}" if kind == "Aborted" else f"Level {reply[1]}" if kind == "Level" else kind
 
 
 def entry_met(entry):
@@ -107,6 +122,32 @@ def entry_met(entry):
     for record, how in ((entry.wrote, "stable"), (entry.flight, "in flight"), (entry.kept, "found")):
         if record:
             yield f"{RECORDS[record[0] - 1]} {how}"
+
+
+# The requests whose answers are counted by themselves, by the word in which an event names them.
+ASKED_BESIDE = {"handover": "Handover", "startat": "StartAt", "token": "Token", "befriend": "Befriend", "unfriend": "Unfriend",
+                "setadd": "SetAdd"}
+
+
+def call_met(entry):
+    """What the answer of some requests is counted as, beside its reply."""
+    word, *event = entry.event.split(":")
+    if word == "call" and event[1] in ASKED_BESIDE:
+        yield f"{ASKED_BESIDE[event[1]]} {reply_met(bytes.fromhex(entry.outcome[len('reply:') :])[4:])}"
+
+
+def moves_met(site):
+    """What became of handovers at a site."""
+    for entry in site.entries:
+        for record, how in ((entry.wrote, "stable"), (entry.flight, "in flight"), (entry.kept, "found")):
+            if record and record[0] == OWN and is_move(record[2]):
+                yield f"Move {how}"
+            elif record and how == "stable" and record[0] in (GOT, SEEN) and is_move(site.log[record[1], record[2]]):
+                yield "Move received" if record[0] == GOT else "Move committed elsewhere"
+
+
+def is_move(tx):
+    return tx.updates[0][0] == MOVE
 
 
 def vote_met(packet):
@@ -132,7 +173,8 @@ def packets_met(run):
 def count_met(run, met):
     met[f"sites {len(run.sites)}"] += 1
     met.update(reply_met(reply[4:]) for frames in run.replies for reply in frames)
-    met.update(one for site in run.sites for entry in site.entries for one in entry_met(entry))
+    met.update(one for site in run.sites for entry in site.entries for one in (*entry_met(entry), *call_met(entry)))
+    met.update(one for site in run.sites for one in moves_met(site))
     met.update(packets_met(run))
 
 
@@ -160,6 +202,23 @@ def knows(program, key):
     """Whether a program takes the key, with the value 1."""
     made = json.dumps({**EMPTY, key: 1})
     return subprocess.run([program, "play"], input=made, capture_output=True, text=True).returncode == 0
+
+
+# A scenario in whose report the program tells that it knows what is done there, by a reply that isn't a bad frame.
+TRIED = {"handovers": ({}, handover(1, 1)), "tokens": ({}, bytes([TOKEN])),
+         "friends": ({"containers": [[5, "cset", 0]], "friends": 5}, of_friends(BEFRIEND, 1, 2))}
+
+
+def does_know(program, what):
+    """Whether a program knows handovers, tokens or friend lists. One that can't be run knows nothing."""
+    keys, body = TRIED[what]
+    made = json.dumps({**EMPTY, "clients": [[0, frame(body).hex()]], "steps": [["call", 0]], **keys})
+    try:
+        tried = subprocess.run([program, "play"], input=made, capture_output=True, text=True)
+    except OSError:
+        return False
+    reply = re.search(" replies 1 [0-9a-f]{8}([0-9a-f]+)", tried.stdout)
+    return reply is not None and not reply[1].startswith(refusal(8).hex())
 
 
 def compare(words, name, source, expected):
@@ -263,10 +322,10 @@ def compare_unproved(folder, count):
         sys.exit("\n".join(line for line in tried.stdout.splitlines() if "output=expected" not in line))
 
 
-def made_from(first, count, several, areas=True, room=True, formats=True):
-    """So many seeds from the first on, each with its scenario; of several sites alone, or without areas, room or formats, where
-    that is asked for."""
-    all_made = ((seed, scenario(seed, areas, room, formats)) for seed in itertools.count(first))
+def made_from(first, count, several, areas=True, room=True, formats=True, known=MORE):
+    """So many seeds from the first on, each with its scenario; of several sites alone, or without areas, room or formats, or with
+    what is known alone, where that is asked for."""
+    all_made = ((seed, scenario(seed, areas, room, formats, known)) for seed in itertools.count(first))
     return itertools.islice((one for one in all_made if one[1]["sites"] > 1 or not several), count)
 
 
@@ -291,6 +350,10 @@ def main():
     for key, known in ("areas", areas or words.one_area), ("room", room), ("format", formats):
         if not known:
             print(NO_KEY.format(key))
+    known = [what for what in MORE if program is None or not words.scenarios or does_know(program, what)]
+    for what in MORE:
+        if what not in known:
+            print(f"the program knows no {what}: no scenario has any")
     areas = areas and not words.one_area
     met, audits = Counter(), None
     if words.scenarios and words.audits and not words.unproved:
@@ -299,7 +362,7 @@ def main():
         print("the program knows no audit: no journals are audited")
         audits = None
     with tempfile.TemporaryDirectory() as folder:
-        for seed, made in made_from(words.seed, words.scenarios, words.several, areas, room, formats):
+        for seed, made in made_from(words.seed, words.scenarios, words.several, areas, room, formats, known):
             run = folds.played(made, met)
             if program:
                 compare([program, "play", "--trace"], f"seed {seed}", json.dumps(made), run.text())
@@ -314,7 +377,7 @@ def main():
     made_loads = [] if words.unproved else loads_from(words.seed, words.loads)
     for seed, calls in made_loads:
         compare_load(program, seed, calls)
-    counted = ALL + (AREAS if areas else []) + (FORMATS if formats else [])
+    counted = ALL + (AREAS if areas else []) + (FORMATS if formats else []) + [one for what in known for one in OF_MORE[what]]
     print("met: " + "; ".join(f"{kind}: {met[kind]:,}" for kind in counted if met[kind]))
     print("not met: " + ("; ".join(kind for kind in counted if not met[kind]) or "none"))
     for line in audits.lines() if audits else ():

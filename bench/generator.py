@@ -10,6 +10,10 @@ sites are pumped too, by a link of any rates, and so they are in some of one sit
 as many bytes for each as a journal of one area would have; of some the capacity is one at which a record just fits, or just
 doesn't. Arms are aimed at restarts too, at the calls of their loads, their packs and their Boots. Journals begin in either
 format, and in most some sites are upgraded, amid faults of their disks too. Some of several sites have up to sixteen.
+
+In a third of those that aren't made for a limit a client more at each site hands containers over, amid all else and to sites that
+are down too; in a third it asks for tokens and starts at them, there and elsewhere; and a third have friend lists, which it
+changes. Each of the three is drawn apart, and left out where programs don't know it.
 """
 
 import random
@@ -19,11 +23,11 @@ from collections import Counter, namedtuple
 import journals
 import model
 import readings
-from spelled import frame, on_set, record_of, write
+from spelled import frame, handover, of_friends, on_set, record_of, start_at, write
 
 CONTAINERS = [[1, "regular", 0], [2, "cset", 0], [7, "regular", 0]]
 CUT = [b"", b"\2\0\0", b"\3" + bytes(12) + b"\0\0\0\5abc", b"\x0a" + bytes(12)]
-BAD_BODIES = CUT + [b"\0", b"\x0b", b"\1\0", b"\4" + bytes(21)]
+BAD_BODIES = CUT + [b"\0", b"\x10", b"\1\0", b"\4" + bytes(21)]
 BAD_ENDS = [b"\0\0", struct.pack(">I", 70000) + b"\1", struct.pack(">I", 9) + b"\1"]
 START, COMMIT, ABORT = (bytes([operation]) for operation in (model.START, model.COMMIT, model.ABORT))
 CHOICES = [0, 1, 1, 2, 7, 256, 257]
@@ -248,6 +252,150 @@ def long_frame(rng):
     return of_one([frames(bodies)], [["call", 0]] * len(bodies))
 
 
+# What clients do beside
+
+# In so many of the scenarios there is each of these.
+MORE, SHARE_OF_MORE = ("handovers", "tokens", "friends"), 1 / 3
+FRIENDS = 5
+
+
+def more_of(seed, known):
+    """What is done beside in a seed's scenario, of what is known. It is drawn apart, so that all else stays where less is known."""
+    rng = random.Random(f"more {seed}")
+    drawn = [what for what in MORE if rng.random() < SHARE_OF_MORE]
+    return rng, [what for what in drawn if what in known]
+
+
+def with_list(rng, containers):
+    """The containers with one of friend lists, preferred at any of their sites."""
+    return sorted([*containers, [FRIENDS, "cset", rng.choice(containers)[2]]])
+
+
+def on_friends(rng):
+    """Two of a few persons become friends or are friends no more; or their lists are looked at, or changed as other sets are."""
+    one, other = rng.choices(range(1, 5), k=2)
+    operation = rng.choice([model.BEFRIEND] * 4 + [model.UNFRIEND] * 2 + [model.SET_READ] * 2 + [model.SET_READ_ID, model.SET_ADD])
+    if operation in (model.BEFRIEND, model.UNFRIEND):
+        return of_friends(operation, one, other)
+    return on_set(operation, (FRIENDS, one), *[other] * (operation != model.SET_READ))
+
+
+class More:
+    """A client at each site of a scenario that is made, who hands over, starts at tokens and makes friends, as it is drawn."""
+
+    def __init__(self, rng, what):
+        self.rng, self.what, self.tokens = rng, what, []
+
+    def join(self, maker):
+        """Puts the clients behind those that there are; what they send is known when it is sent."""
+        made, self.maker, self.first = maker.made, maker, len(maker.made["clients"])
+        if "friends" in self.what:
+            made["containers"] = with_list(self.rng, made["containers"])
+            made["friends"] = 2 if self.rng.random() < 0.1 else FRIENDS
+        self.sent = [bytearray() for _ in range(maker.sites)]
+        made["clients"] += [[site, ""] for site in range(maker.sites)]
+
+    def begin(self, run):
+        self.run = run
+        run.calls[self.first :] = [model.calls_of(sent, Counter()) for sent in self.sent]
+
+    def end(self):
+        for client, sent in enumerate(self.sent, self.first):
+            self.maker.made["clients"][client][1] = bytes(sent).hex()
+
+    def ask(self, site, body):
+        """The client of a site sends this, and has its turn. Gives the reply."""
+        self.sent[site.me] += frame(body)
+        self.maker.take(["call", self.first + site.me])
+        return self.run.replies[self.first + site.me][-1][4:]
+
+    def act(self):
+        """Now and then does one of these things."""
+        down = [site.me for site in self.run.sites if not site.up]
+        if down and self.rng.random() < 0.05:
+            self.maker.take(["restart", self.rng.choice(down)])
+        if self.rng.random() < 0.2:
+            able = [site for site in self.run.sites if site.up] if self.rng.random() < 0.9 else []
+            site = self.rng.choice(able or self.run.sites)
+            {"handovers": self.hand_over, "tokens": self.with_tokens, "friends": self.go_on}[self.rng.choice(self.what)](site)
+
+    def hand_over(self, site):
+        """Mostly a container that is preferred there; the disk may fail under it, and a site may be down to which it goes."""
+        rng, held = self.rng, [container for container, home in site.homes.items() if home == site.me]
+        if not held and rng.random() < 0.8:
+            return self.go_on(site)
+        container = rng.choice(held) if held and rng.random() < 0.95 else rng.choice([*site.homes, 3])
+        to = rng.choice(site.peers) if site.peers and rng.random() < 0.95 else rng.choice([site.me, len(self.run.sites)])
+        down = [other.me for other in self.run.sites if not other.up and other.me != site.me]
+        if down and rng.random() < 0.5:
+            to = rng.choice(down)
+        elif rng.random() < 0.05 and to < len(self.run.sites):
+            self.maker.take(["stop", to])
+        if self.maker.kind.arms and rng.random() < 0.15:
+            self.maker.take(["arm", site.me, rng.randint(1, 4), rng.choice(CHOICES)])
+        self.ask(site, handover(container, to))
+        if not site.up and rng.random() < 0.7:
+            self.maker.take(["restart", site.me])
+
+    def token(self):
+        """Mostly one that was given, and else one that somebody made up."""
+        token = list(self.rng.choice(self.tokens[-6:])) if self.tokens else [0] * len(self.run.sites)
+        how = self.rng.random()
+        if how < 0.1:
+            token[self.rng.randrange(len(token))] += 1
+        elif how < 0.15:
+            token.append(0)
+        return token[: model.MOST_WIDTH]
+
+    def with_tokens(self, site):
+        if self.rng.random() < 0.5:
+            reply = self.ask(site, bytes([model.TOKEN]))
+            if reply[0] == model.TOKEN_IS:
+                self.tokens.append(struct.unpack_from(f">{reply[1]}Q", reply, 2))
+        elif self.first + site.me in site.sessions and self.rng.random() < 0.9:
+            self.go_on(site)
+        else:
+            self.ask(site, start_at(self.token()))
+
+    def go_on(self, site):
+        """One thing more in a transaction, or some, or its end; or it begins."""
+        if self.first + site.me not in site.sessions and self.rng.random() < 0.95:
+            self.ask(site, START)
+        for _ in range(self.rng.randint(1, 3)):
+            if "friends" in self.what and self.rng.random() < 0.8 or self.rng.random() < 0.02:
+                self.ask(site, on_friends(self.rng))
+            else:
+                operation = self.rng.choice([model.WRITE, model.READ, model.SET_ADD, model.SET_READ])
+                self.ask(site, request(self.rng, operation, True, self.maker.regular()))
+        if self.rng.random() < 0.7:
+            self.ask(site, COMMIT)
+
+
+def of_one_client(rng, what):
+    """What a client more at a site alone sends: a container can't be handed over there."""
+    bodies = []
+    for _ in range(rng.randint(1, 5)):
+        if "handovers" in what:
+            bodies.append(handover(rng.choice([1, 2, 3]), rng.choice([0, 0, 1])))
+        if "tokens" in what:
+            bodies += [bytes([model.TOKEN]), start_at([rng.choice([0, 0, 1, 2, 9])] * rng.choice([1, 1, 1, 2]))]
+        bodies.append(START)
+        if "friends" in what and rng.random() < 0.2:
+            bodies += [on_set(model.SET_ADD, (2, 1), number) for number in range(near(rng, 254))]
+        bodies += [on_friends(rng) if "friends" in what else change_or_read(rng, True) for _ in range(rng.randint(1, 4))]
+        bodies.append(COMMIT)
+    return bodies
+
+
+def with_more_of_one(rng, made, what):
+    """The scenario of one site with a client more, whose turns come at any places."""
+    bodies, steps = of_one_client(rng, what), list(made["steps"])
+    for place in sorted(rng.choices(range(len(steps) + 1), k=len(bodies)), reverse=True):
+        steps.insert(place, ["call", len(made["clients"])])
+    made = {**made, "clients": [*made["clients"], [0, frames(bodies).hex()]], "steps": steps}
+    return {**made, "containers": with_list(rng, made["containers"]), "friends": FRIENDS} if "friends" in what else made
+
+
 # Scenarios of several sites
 
 # How many sites there are, the weights of the steps, how many of the packets are lost, and how many come in any order or
@@ -287,8 +435,8 @@ def of_several(rng, site, regular, reads):
 class Maker:
     """A scenario of several sites while it is made, beside a run of the model that has played its steps so far."""
 
-    def __init__(self, rng, kind, areas=True):
-        self.rng, self.kind, self.steps = rng, kind, []
+    def __init__(self, rng, kind, areas=True, more=None):
+        self.rng, self.kind, self.steps, self.more = rng, kind, [], more
         self.sites = rng.choice(kind.sites)
         self.made = {"sites": self.sites, "f": min(self.sites - 1, rng.choice([0, 0, 1, rng.randrange(self.sites)])),
                      "containers": self.containers(), "clients": self.clients()}
@@ -301,7 +449,13 @@ class Maker:
             self.made["arms"] = [arm(rng, rng.randrange(self.sites))[1:] for _ in range(rng.randint(1, 3))]
         if kind.weights[-1]:
             self.made.update(link_of(rng))
+        # How many clients there are but for those that do more.
+        self.callers = len(self.made["clients"])
+        if more:
+            more.join(self)
         self.run = model.Run(self.made, Counter())
+        if more:
+            more.begin(self.run)
         # Up to where each lane has come, in order; and a site that is pumped seldom, and then many times, if there is one.
         self.come, self.sleeper = Counter(), rng.choice([None, rng.randrange(self.sites)])
 
@@ -333,7 +487,7 @@ class Maker:
                 yield here, there
 
     def call(self):
-        return ["call", self.rng.randrange(len(self.made["clients"]))]
+        return ["call", self.rng.randrange(self.callers)]
 
     def deliver(self):
         """Mostly a packet of a lane on which some are still to come."""
@@ -407,12 +561,16 @@ class Maker:
 
     def scenario(self, count):
         for _ in range(count):
+            if self.more:
+                self.more.act()
             self.take(getattr(self, self.rng.choices(WORDS, self.kind.weights)[0])())
+        if self.more:
+            self.more.end()
         return {**self.made, "steps": self.steps}
 
 
-def several(rng, kind, areas=True):
-    return Maker(rng, SEVERAL[kind], areas).scenario(rng.randint(20, 300))
+def several(rng, kind, areas=True, more=None):
+    return Maker(rng, SEVERAL[kind], areas, more).scenario(rng.randint(20, 300))
 
 
 # Scenarios in which ticks may fold rows
@@ -477,7 +635,8 @@ class FoldedMaker(Maker):
         return frames(bodies).hex()
 
     def quick_at(self, *sites):
-        return [number for number, (site, _) in enumerate(self.made["clients"]) if number >= self.staying and site in sites]
+        clients = enumerate(self.made["clients"][: self.callers])
+        return [number for number, (site, _) in clients if number >= self.staying and site in sites]
 
     def take(self, made):
         """Takes a step; or none, where what was to be done has been taken step by step."""
@@ -554,8 +713,8 @@ class FoldedMaker(Maker):
         return super().scenario(count)
 
 
-def folded(rng, kind, areas=True):
-    return FoldedMaker(rng, FOLDED[kind], areas).scenario(rng.randint(40, 250))
+def folded(rng, kind, areas=True, more=None):
+    return FoldedMaker(rng, FOLDED[kind], areas, more).scenario(rng.randint(40, 250))
 
 
 def full_lane(rng):
@@ -651,17 +810,20 @@ def kind_of(seed):
     return BY_SEED[seed % len(BY_SEED)]
 
 
-def scenario(seed, areas=True, room=True, formats=True):
+def scenario(seed, areas=True, room=True, formats=True, known=MORE):
     """The scenario of a seed; where no areas are asked for none has the key `areas`, and so of `room`; where no formats are, none
-    has the key `format`, a step that upgrades a site, or more than eight sites."""
+    has the key `format`, a step that upgrades a site, or more than eight sites; and of `MORE` none does what isn't known."""
     rng, kind = random.Random(seed), kind_of(seed)
+    its_own, what = more_of(seed, known)
+    more = More(its_own, what) if what else None
     if kind in FOLDED:
-        made = folded(rng, kind, areas)
+        made = folded(rng, kind, areas, more)
     elif kind in (None, "one"):
         made = small(rng) if kind else AT_LIMIT[seed // len(BY_SEED) % len(AT_LIMIT)](rng)
         made.update(areas_of(rng, made) if areas else {})
+        made = with_more_of_one(its_own, made, what) if kind and what else made
     else:
-        made = several(rng, kind, areas)
+        made = several(rng, kind, areas, more)
     if formats:
         made = with_formats(seed, made, kind is not None)
         made = with_sites(seed, made) if kind in SEVERAL else made

@@ -34,6 +34,10 @@ each record with its ratio to the first's; and beside it the time of journals of
 read: of these all is read and replayed too, up to that record, and then the audit ends. The whole is to take at most
 three times that.
 
+With --moves it measures what a handover takes: two sites hand sixteen containers to each other by turns, 1,000, 10,000 and 30,000
+times in all, each of which is committed at both. It prints the least time of each run, and that for each handover with its ratio
+to the first's: about 1 where a handover costs the same however often containers have moved before. With --model the plain model plays.
+
 With --example it plays nothing, and writes one of the two big examples. Both are made so, and the scripts beside them:
 
     for run in ten_thousand_calls five_thousand_transactions; do
@@ -62,12 +66,13 @@ import journals
 import kinds
 import long_journals
 import model
-from compare import FAST, built
+from compare import FAST, built, does_know
 from generator import ABORT as ABORT_IT, COMMIT as COMMIT_IT
 from loads import load_words
 from measured import events_of, fault_of, measured, measured_of, microseconds, run_of
 from model import WINDOW
 from pieces import taken_by
+from spelled import frame, handover
 
 CLIENTS = 10
 SITES = 3
@@ -78,6 +83,8 @@ RESTARTS, COMMITS = 1_000, (10, 2_000)
 EVENTS, MOST_TIMES = 90_000, 1.5
 # How many records each of sixteen journals has, and of what is read at most an audit may take.
 RECORDS, MOST_OF_READING = (5_000, 10_000, 20_000), 3
+# How often containers are handed over in all, and how many there are.
+MOVES, CONTAINERS = (1_000, 10_000, 30_000), 16
 # How many bytes tell where the reply of an entry lies.
 PLACE = 8
 # How many bytes of a journal the records take that a commit of one write of one byte makes, and a restart.
@@ -432,6 +439,64 @@ def audit_lines(program):
                f"{MOST_OF_READING}")
 
 
+# Handovers
+
+
+class Moves:
+    """Two sites that hand all containers to each other by turns, each turn once the other has committed the last one."""
+
+    def __init__(self, count):
+        self.steps, self.sent, self.out, self.left = [], ["", ""], Counter(), count
+        giver = 0
+        while self.left:
+            self.turn(giver, min(self.left, CONTAINERS))
+            giver = 1 - giver
+
+    def turn(self, giver, count):
+        taker = 1 - giver
+        self.left -= count
+        self.sent[giver] += "".join(frame(handover(number, taker)).hex() for number in range(1, count + 1))
+        self.steps += [["call", giver]] * count
+        # Each is put out and acknowledged; of the ACKs the last says all, and brings a DSMARK.
+        self.deliver(taker, giver, count)
+        self.out[giver, taker] += count
+        self.out[taker, giver] += count
+        self.deliver_last(giver, taker)
+        self.out[giver, taker] += 1
+        self.deliver_last(taker, giver)
+        self.steps += [["advance", taker, giver]] * count
+        self.out[taker, giver] += count
+        self.deliver_last(giver, taker)
+
+    def deliver(self, here, there, count):
+        self.steps += [["deliver", here, there, self.out[there, here] + number] for number in range(1, count + 1)]
+
+    def deliver_last(self, here, there):
+        self.steps.append(["deliver", here, there, self.out[there, here]])
+
+    def scenario(self):
+        return {"sites": 2, "f": 0, "containers": [[number, "regular", 0] for number in range(1, CONTAINERS + 1)],
+                "clients": [[site, sent] for site, sent in enumerate(self.sent)], "steps": self.steps}
+
+
+def seconds_of_moves(program, made):
+    """The least time of some runs of the program, or of the model where there is none."""
+    if program:
+        return least_time(program, json.dumps(made))
+    begins = time.process_time()
+    model.played(made, Counter())
+    return time.process_time() - begins
+
+
+def move_lines(program):
+    first = None
+    for count in MOVES:
+        took = seconds_of_moves(program, Moves(count).scenario())
+        first = first or took / count
+        yield (f"{count:,} handovers of {CONTAINERS} containers: {took:.3f} s, {microseconds(took, count, 'a handover')}; "
+               f"ratio {took / count / first:.2f}")
+
+
 # The command
 
 
@@ -456,16 +521,17 @@ def main():
                         "without it")
     parser.add_argument("--memory", action="store_true", help="measure only how much memory a run takes beside its trail")
     parser.add_argument("--audit", action="store_true", help="measure only what audits of long journals take")
-    parser.add_argument("--model", action="store_true", help="have the plain model play the restarts")
+    parser.add_argument("--moves", action="store_true", help="measure only what handovers of containers take")
+    parser.add_argument("--model", action="store_true", help="have the plain model play the restarts, or the handovers")
     parser.add_argument("--example", choices=EXAMPLES, help="write this example, and play nothing")
     words = parser.parse_args()
     if words.example:
         print(EXAMPLES[words.example]())
         return
-    if words.model and not words.restarts or words.count < 2:
-        parser.error("--model goes with --restarts, and a site restarts twice at least")
-    if words.loads + words.restarts + words.memory + words.audit > 1:
-        parser.error("of --loads, --restarts, --memory and --audit there is one alone")
+    if words.model and not (words.restarts or words.moves) or words.count < 2:
+        parser.error("--model goes with --restarts or --moves, and a site restarts twice at least")
+    if words.loads + words.restarts + words.memory + words.audit + words.moves > 1:
+        parser.error("of --loads, --restarts, --memory, --audit and --moves there is one alone")
     if words.memory:
         for line in memory_lines(shlex.split(words.program) if words.program else [built()], EVENTS):
             print(line, flush=True)
@@ -473,6 +539,12 @@ def main():
     program = None if words.model else words.program or built()
     if words.audit:
         for line in audit_lines(os.path.abspath(program)):
+            print(line, flush=True)
+        return
+    if words.moves:
+        if program and not does_know(program, "handovers"):
+            sys.exit("the program knows no handovers")
+        for line in move_lines(program):
             print(line, flush=True)
         return
     if not words.loads and not words.restarts:

@@ -21,6 +21,7 @@ what is wrong. Ends with status 1 where something is. With --model the model pla
 """
 
 import argparse
+import functools
 import json
 import os
 import random
@@ -41,7 +42,7 @@ import journals
 import model
 import readings
 from audit import files_in, write_files
-from compare import FAST, built, first_difference
+from compare import FAST, built, does_know, first_difference
 from generator import COMMIT as COMMIT_IT, START as START_IT, frames
 from measured import run_of
 from spelled import *
@@ -100,8 +101,22 @@ PIECES = [b"\0", b"\1", b"\x7f", b"\x80", b"\xff", b"\0\0\0\1", b"\0\1\0\0", b"\
           frames([START_IT]), frames([COMMIT_IT]), *generator.BAD_BODIES, *generator.BAD_ENDS]
 
 
-def bodies(rng):
+# The same of handovers, tokens and friend lists, for programs that know them.
+MORE_PIECES = [handover(1, 1), handover(3, 9), bytes([TOKEN]), start_at((0,)), start_at((0, 1)), start_at([0] * 16), bytes([START_AT, 0]),
+               bytes([START_AT, 17]), bytes([START_AT, 2]) + bytes(15), of_friends(BEFRIEND, 1, 2), of_friends(UNFRIEND, 2, 1),
+               of_friends(BEFRIEND, 1, 1), of_friends(BEFRIEND, 1, 2)[:-1]]
+
+
+@functools.lru_cache(maxsize=None)
+def knows_more(program):
+    """Whether a program knows handovers, tokens and friend lists."""
+    return program is None or all(does_know(program, what) for what in generator.MORE)
+
+
+def bodies(rng, is_more=False):
     """The bodies of some requests: a transaction, or anything."""
+    if is_more and rng.random() < 0.3:
+        return [START_IT, *rng.choices(MORE_PIECES, k=rng.randint(1, 4)), COMMIT_IT]
     if rng.random() < 0.3:
         return [generator.any_body(rng) for _ in range(rng.randint(1, 4))]
     return [START_IT, *(generator.any_body(rng) for _ in range(rng.randint(1, 3))), COMMIT_IT]
@@ -117,11 +132,12 @@ def sent(rng, bases):
     return changed(rng, [frames(made), frames(rng.choice(bases))], PIECES)
 
 
-def requests_of(seed, count):
-    """A scenario with so many clients, each of whom sends an input."""
+def requests_of(seed, count, is_more=False):
+    """A scenario with so many clients, each of whom sends an input; some hand over, start at tokens and make friends, where that is
+    asked for."""
     rng = random.Random(f"requests {seed}")
     sites = rng.choice([site for site in (1, 1, 2, 4) if site * CLIENTS >= count] or [4])
-    bases = [bodies(rng) for _ in range(60)]
+    bases = [bodies(rng, is_more) for _ in range(60)]
     clients = [[number % sites, sent(rng, bases).hex()] for number in range(count)]
     turns = [len(list(model.calls_of(bytes.fromhex(hex), Counter()))) + 1 for _, hex in clients]
     steps = [["call", number] for number in range(count) for _ in range(turns[number])]
@@ -131,8 +147,9 @@ def requests_of(seed, count):
         if rng.random() < 0.3:
             steps.insert(rng.randint(0, len(steps)), ["upgrade", site])
     containers = [[number, kind, rng.randrange(sites)] for number, kind, _ in generator.CONTAINERS]
+    friends = {"friends": 2} if is_more and rng.random() < 0.5 else {}
     return {"sites": sites, "f": rng.randrange(sites), "containers": containers, "clients": clients, "format": rng.choice((1, 2)),
-            "steps": steps}
+            "steps": steps, **friends}
 
 
 def came_of(program, words, data):
@@ -152,7 +169,7 @@ def differs(came, wanted):
 
 def try_requests(program, seed, count, met):
     """Plays a scenario of so many inputs. Gives what is wrong, or None."""
-    made = requests_of(seed, count)
+    made = requests_of(seed, count, knows_more(program))
     run = model.played(made, Counter())
     for reply in (reply for replies in run.replies for reply in replies):
         met["bad frames" if reply[4:6] == refusal(8) else "refusals" if reply[4] == REFUSED else "answers"] += 1
@@ -183,15 +200,16 @@ VALUES = [0, 1, 1, 2, 3, 7, 8, 9, 15, 16, 17, -1, 19, 46, 47, 255, 256, 1000, 10
           ["advance", 0, 1], [0, 1, 1], [0, ""], [9, "cset", 0], {"seed": 1, "lose": 0, "repeat": 1000, "swap": 500}]
 
 
-def texts():
-    """Short texts of scenarios, from which the inputs are made."""
+def texts(is_more=True):
+    """Short texts of scenarios, from which the inputs are made: without friend lists and the like, where these aren't known."""
     folder = os.path.join(TOP, "examples")
     found = []
     for name in sorted(os.listdir(folder)):
         if name.endswith(".json"):
             with open(os.path.join(folder, name), "rb") as file:
                 found.append(file.read(LONGEST_TEXT + 1).strip())
-    made = (json.dumps(generator.scenario(seed)).encode() for seed in range(GENERATED))
+    known = generator.MORE if is_more else ()
+    made = (json.dumps(generator.scenario(seed, known=known)).encode() for seed in range(GENERATED))
     return [text for text in [*found, *made] if len(text) <= LONGEST_TEXT]
 
 
@@ -436,7 +454,7 @@ def tried(program, count, seed):
     """Tries so many inputs of each kind. Gives how many are wrong, with a line for each."""
     wrong = 0
     share = count // SHARE
-    text_bases, bases, run_bases = texts(), journal_bases(), audit_bases()
+    text_bases, bases, run_bases = texts(knows_more(program)), journal_bases(), audit_bases()
     kinds = [
         ("clients' bytes", batches(count - share * (TEXTS + JOURNALS)), partial(try_requests, program)),
         ("texts of scenarios", ((), share * TEXTS), lambda number, met: try_text(program, text_bases, number, met)),

@@ -23,10 +23,16 @@ RULES = "walter_rules/specs/"
 ALLOWED = "walter_rules/proofs/DeliveriesAllowed.antt"
 TESTS = "walter_rules/proofs/RuleTests.antt"
 FOLLOWED = "walter_alone/proofs/Followed.antt"
+CALLED = "walter_rules/proofs/CallsAllowed.antt"
+FRIENDS = "walter_base/specs/Friends.antt"
+STARTS_BEHIND = """quiet (Given (Call client (Ok (StartAt token)))) None (Replied (Started (next_tid i S.knows)))
+        (IsKind.starts client (Ok (StartAt token)) up has (IsStartCall.of_token token))
+"""
 COMMITTED_ROW = """abbrev pub committed_row : Knowledge → ObjId → List Held
 committed_row K oid = filter (λ h. nat_le h.seq (K.committed h.tx.tid.site)) (row oid K.log)
 
 """
+MEETS = "alive_over one.0 (first_outside snapshot (map version_of "
 OVER_A_LOCK = "      refusal_true (LockedThere oid owner) free met =\n"
 # What is changed, and in which files what stands there once for what.
 CHANGES = {
@@ -39,11 +45,12 @@ CHANGES = {
     ],
     "a conflict is looked for among what is committed here alone": [
         (RULES + "Conflicts.antt", "{ℕ, List, map, filter_map,", "{ℕ, nat_le, List, map, filter, filter_map,"),
-        (RULES + "Conflicts.antt", "use Rattle.walter_rules.specs.Knowledge.{Knowledge}\n",
-         "use Rattle.walter_rules.specs.declared.held.Held.{Held}\nuse Rattle.walter_rules.specs.Knowledge.{Knowledge}\n"),
+        (RULES + "Conflicts.antt", "use Rattle.walter_rules.specs.Knowledge.{Knowledge, preferred}\n",
+         "use Rattle.walter_rules.specs.declared.held.Held.{Held}\nuse Rattle.walter_rules.specs.Knowledge.{Knowledge, preferred}\n"),
         (RULES + "Conflicts.antt", "abbrev pub conflict_at :", COMMITTED_ROW + "abbrev pub conflict_at :"),
         (RULES + "Conflicts.antt", "(row oid K.log)) (K.owner", "(committed_row K oid)) (K.owner"),
-        (TESTS, "(map version_of (row one.0 K.log))", "(map version_of (committed_row K one.0))"),
+        (TESTS, "first in\n    " + MEETS + "(row one.0 K.log))", "first in\n    " + MEETS + "(committed_row K one.0))"),
+        (TESTS, "inl here ↦ " + MEETS + "(row one.0 K.log))", "inl here ↦ " + MEETS + "(committed_row K one.0))"),
         (TESTS, "specs.Conflicts.{conflict_at,", "specs.Conflicts.{committed_row, conflict_at,"),
         (FOLLOWED, "(map version_of (row oid K.log))", "(map version_of (committed_row K oid))"),
         (FOLLOWED, "specs.Conflicts.{conflict_at}", "specs.Conflicts.{committed_row, conflict_at}"),
@@ -52,7 +59,18 @@ CHANGES = {
         (RULES + "Marks.antt", "nat_le (catalog.tolerated + 1) (count_by", "nat_le catalog.tolerated (count_by"),
     ],
     "a commit is durable where the preferred sites of what it changed haven't got it": [
-        (RULES + "Marks.antt", "option_map_or (is_at_homes catalog i K q) (commit_at i q K.log) true", "true"),
+        (RULES + "Marks.antt", "list_all (holds i K q) (K.placed q)", "true"),
+    ],
+    "a StartAt starts whatever its token sees": [
+        (RULES + "Calls.antt", "starts_unless i K (Some refusal) = refuses refusal",
+         "starts_unless i K (Some refusal) = answers (Started (next_tid i K))"),
+        (RULES + "Allowed.antt", "of_token : (token : List ℕ) → Covers K.committed token → IsStartCall",
+         "of_token : (token : List ℕ) → IsStartCall"),
+        (CALLED, "(IsStartCall.of_token token (none_behind catalog S.knows token wide none)))", "(IsStartCall.of_token token))"),
+        (CALLED, "refused client (Ok (StartAt token)) refusal\n", STARTS_BEHIND),
+    ],
+    "a Befriend or an Unfriend changes one side": [
+        (FRIENDS, "both p = p.0 ∷ p.1 ∷ []", "both p = p.0 ∷ []"),
     ],
     "a NO names any lock": [
         (RULES + "Deliveries.antt", "if is_unseen K start owner then No (LockedThere oid owner) else Later",

@@ -63,6 +63,12 @@ def writes_of(updates):
     return sorted({update[1] for update in updates if update[0] == WRITE})
 
 
+def pair_of(friends, one, other, gain):
+    """The two updates by which two persons are in each other's list from now on, or no more."""
+    what = SET_ADD if gain else SET_DEL
+    return (what, (friends, one), other), (what, (friends, other), one)
+
+
 class Session:
     """A client's transaction: its name, its snapshot, its updates, its size, and the number of its slow commit, or 0."""
 
@@ -74,10 +80,11 @@ class Session:
 
 
 class SlowCommit:
-    """A slow commit of this site: its transaction, whom it asks, and how it stands."""
+    """A slow commit of this site: its transaction, which objects it wants of each site, and how it stands. What it wants, and whom
+    it asks, stays as it was when it began, wherever containers are handed over meanwhile."""
 
-    def __init__(self, tx, asked):
-        self.tx, self.asked, self.stands = tx, asked, "undecided"
+    def __init__(self, tx, wanted, asked):
+        self.tx, self.wanted, self.asked, self.stands = tx, wanted, asked, "undecided"
         self.yes, self.confirmed, self.cause = set(), set(), None
 
     def end(self):
@@ -95,6 +102,8 @@ class Site:
     def __init__(self, scenario, me, met):
         self.met, self.me, self.count, self.tolerated = met, me, scenario["sites"], scenario["f"]
         self.containers = {number: (kind, site) for number, kind, site in scenario["containers"]}
+        # The container of the friend lists, if there is one.
+        self.friends = scenario.get("friends")
         self.capacity, self.areas = scenario.get("capacity", readings.CAPACITY), scenario.get("areas", 1)
         # The format of the journal's header, which is that of a new one until the journal is loaded. That in force is `form`.
         self.header = scenario.get("format", readings.format_of(self.count))
@@ -115,6 +124,9 @@ class Site:
         self.log, self.numbers, self.form = {}, {}, self.header
         # Of each object what the log has of it, in its order: (site, number, update).
         self.rows = defaultdict(list)
+        # Where each container is preferred: by the catalog, and then by the last handover of it that is committed here. And at
+        # which sites each own commit is to be held: where what it changes was preferred just before it.
+        self.homes, self.placed = {number: site for number, (_, site) in self.containers.items()}, {}
         # The slow commits by number and by the names of their transactions, and those of which a Tick may speak.
         self.slows, self.slow_of, self.unsettled = {}, {}, {}
         self.epoch, self.last = 0, 0
@@ -138,7 +150,9 @@ class Site:
             self.unsettled = {number: slow for number, slow in self.slows.items() if not slow.is_settled()}
         elif kind == OWN:
             number, tx = fields
+            self.placed[number] = self.places(tx.updates)
             self.keep(self.me, number, tx)
+            self.hand_over(tx.updates)
             self.committed[self.me] = self.numbers[tx.tid] = number
             if tx.slow:
                 self.slows[tx.slow].stands = "decided"
@@ -148,9 +162,10 @@ class Site:
             self.keep(*fields)
         elif kind == SEEN:
             self.committed[fields[0]] = fields[1]
-            slow = self.log[tuple(fields)].slow
-            if slow:
-                self.let_go(fields[0], slow)
+            tx = self.log[tuple(fields)]
+            self.hand_over(tx.updates)
+            if tx.slow:
+                self.let_go(fields[0], tx.slow)
         elif kind == PREPARED:
             self.locks[fields[0], fields[1]] = fields[2], fields[3]
         elif kind == LET_GO:
@@ -158,9 +173,9 @@ class Site:
         elif kind == SLOW_BEGIN:
             self.last, tx = fields
             asked = sorted({self.home(oid) for oid in writes_of(tx.updates)} - {self.me})
-            slow = SlowCommit(tx, asked)
+            slow = SlowCommit(tx, {k: self.here(tx.updates, k) for k in (self.me, *asked)}, asked)
             self.slows[self.last] = self.slow_of[tx.tid] = self.unsettled[self.last] = slow
-            self.locks[self.me, self.last] = tx.tid, self.here(tx.updates)
+            self.locks[self.me, self.last] = tx.tid, slow.wanted[self.me]
         elif kind == SLOW_END:
             self.slows[fields[0]].end()
             self.locks.pop((self.me, fields[0]), None)
@@ -172,8 +187,18 @@ class Site:
     def keep(self, site, number, tx):
         self.log[site, number] = tx
         for update in tx.updates:
-            self.rows[update[1]].append((site, number, update))
+            if update[0] != MOVE:
+                self.rows[update[1]].append((site, number, update))
         self.got[site] = number
+
+    def hand_over(self, updates):
+        """What a commit hands over, which stands here from now on."""
+        self.homes.update((container, to) for what, container, to in updates if what == MOVE)
+
+    def places(self, updates):
+        """Where updates are to be held: at the home of what each changes; of a handover at the old home and at the new one."""
+        return {site for what, where, to in updates
+                for site in ((self.homes[where], to) if what == MOVE else (self.home(where),))}
 
     def let_go(self, coordinator, slow):
         self.locks.pop((coordinator, slow), None)
@@ -187,7 +212,8 @@ class Site:
         return next((fields[0] for kind, *fields in reversed(self.records) if kind == BOOT), 0)
 
     def home(self, oid):
-        return self.containers[oid[0]][1]
+        """Where an object is preferred, by this site's own log."""
+        return self.homes[oid[0]]
 
     def here(self, updates, site=None):
         """The regular objects that the updates write and that are preferred at the site, this one if none is named."""
@@ -197,7 +223,8 @@ class Site:
         return self.containers.get(oid[0], ("",))[0] == kind
 
     def are_declared(self, updates):
-        return all(self.is_declared(oid, "regular" if what == WRITE else "cset") for what, oid, _ in updates)
+        return all(to in range(self.count) and where in self.containers if what == MOVE
+                   else self.is_declared(where, "regular" if what == WRITE else "cset") for what, where, to in updates)
 
     def conflict(self, objects, start):
         """What stands in the way of a commit of these regular objects, whose rows have writes alone."""
@@ -210,10 +237,18 @@ class Site:
                     return LOCKED, oid, owner
         return None
 
+    def conflict_there(self, objects, start):
+        """What stands in the way of another site's slow commit of these, object by object: that one isn't preferred here comes
+        before what else does."""
+        for oid in objects:
+            found = self.conflict([oid], start) if self.home(oid) == self.me else (MOVING, oid)
+            if found:
+                return found
+        return None
+
     def is_durable(self, number, acked):
         holders = {self.me, *(k for k in self.peers if acked[k] >= number)}
-        homes = {self.home(oid) for _, oid, _ in self.log[self.me, number].updates}
-        return len(holders) > self.tolerated and homes <= holders
+        return len(holders) > self.tolerated and self.placed[number] <= holders
 
     def marks(self, acked=None, seen_by=None):
         """The durable and the visible mark, by what peers have said, or would have said.
@@ -395,8 +430,8 @@ class Site:
         return said
 
     def prepare(self, number, k):
-        tx = self.slows[number].tx
-        return PREPARE, number, tx.tid, tx.start, self.here(tx.updates, k)
+        slow = self.slows[number]
+        return PREPARE, number, slow.tx.tid, slow.tx.start, slow.wanted[k]
 
     # Packets
 
@@ -444,13 +479,13 @@ class Site:
         def vote(*answer):
             return lambda: [(j, (VOTE, number, *answer))]
 
-        if not all(self.is_declared(oid, "regular") and self.home(oid) == self.me for oid in objects):
+        if not all(self.is_declared(oid, "regular") for oid in objects):
             return Plan("passed")
         if number in self.over[j]:
             return Plan("passed", sends=vote((DEAD,)))
         if (j, number) in self.locks:
             return Plan("passed", sends=vote())
-        conflict = self.conflict(objects, start)
+        conflict = self.conflict_there(objects, start)
         if conflict:
             return Plan("passed", sends=vote(self.answer_over(conflict, start)))
         return Plan("taken", (PREPARED, j, number, tid, objects), sends=vote())
@@ -510,22 +545,30 @@ class Site:
             plan = Plan(refusal(9))
         elif operation == LEVEL:
             plan = Plan(self.level(fields[0]))
+        elif operation == HANDOVER:
+            plan = self.handover(*fields[0])
+        elif operation == TOKEN:
+            plan = Plan(bytes([TOKEN_IS]) + wide(self.committed))
         elif client in self.gone:
             plan = Plan(refusal(7, name_of(self.gone.pop(client))))
-        elif operation == START:
-            plan = self.start(client)
+        elif operation in (START, START_AT):
+            plan = self.start(client, *fields)
         elif session is None or session.slow and operation != COMMIT:
             plan = Plan(refusal(5))
         elif operation == COMMIT:
             plan = self.commit(client, session)
         elif operation == ABORT:
             plan = Plan(bytes([ABORTED, ASKED]), change=lambda: self.sessions.pop(client))
+        elif operation in (BEFRIEND, UNFRIEND):
+            plan = Plan(self.befriend(session, *fields[0], operation == BEFRIEND))
         else:
             plan = Plan(self.use(session, operation, *fields))
 
         def failed():
-            del self.sessions[client]
-            return bytes([UNSURE]) + name_of(session.tid)
+            """The name is that of what was to be committed; a handover isn't the session's, and leaves it to be told Gone."""
+            if operation != HANDOVER:
+                del self.sessions[client]
+            return bytes([UNSURE]) + name_of(plan.record[2].tid)
 
         framed = plan._replace(outcome="reply:" + frame(plan.outcome).hex())
         outcome = self.carry_out(
@@ -549,16 +592,46 @@ class Site:
             return bytes([LEVEL_IS, 2])
         return bytes([LEVEL_IS, any(one.tid == tid and not one.slow for one in self.sessions.values())])
 
-    def start(self, client):
+    def next_tid(self):
+        return self.me, self.epoch, self.starts + 1
+
+    def count_start(self):
+        self.starts += 1
+
+    def handover(self, container, to):
+        """A container is handed to another site by a transaction of its own. No session is wanted, and none ends."""
+        if container not in self.containers:
+            return Plan(refusal(1))
+        if to == self.me or to >= self.count:
+            return Plan(refusal(18))
+        if self.homes[container] != self.me:
+            return Plan(refusal(16, bytes([self.homes[container]])))
+        locked = [(oid, owner) for owner, objects in self.locks.values() for oid in objects if oid[0] == container]
+        if locked:
+            oid, owner = min(locked)
+            return Plan(refusal(17, struct.pack(">IQ", *oid) + name_of(owner)))
+        number, tx = self.own() + 1, Tx(self.next_tid(), 0, tuple(self.committed), ((MOVE, container, to),))
+        return Plan(struct.pack(">BBQ", COMMITTED, self.me, number), (OWN, number, tx), self.count_start)
+
+    def behind(self, token):
+        """The least site of which less is committed here than a token sees, with how much that is."""
+        return next(((k, have) for k, (have, wanted) in enumerate(zip(self.committed, token)) if have < wanted), None)
+
+    def start(self, client, token=()):
         if client in self.sessions:
             return Plan(refusal(6))
         meet(self.met, "open transactions", len(self.sessions) + 1, 256)
         if len(self.sessions) >= 256:
             return Plan(refusal(12))
-        tid = self.me, self.epoch, self.starts + 1
+        if token and len(token) != self.count:
+            return Plan(refusal(20))
+        behind = self.behind(token)
+        if behind:
+            return Plan(refusal(19, struct.pack(">BQ", *behind)))
+        tid = self.next_tid()
 
         def begin():
-            self.starts += 1
+            self.count_start()
             self.sessions[client] = Session(tid, list(self.committed))
 
         return Plan(bytes([STARTED]) + name_of(tid), change=begin)
@@ -595,6 +668,8 @@ class Site:
             return refusal(1)
         if not self.is_declared(oid, "regular" if operation in (READ, WRITE) else "cset"):
             return refusal(2)
+        if operation in (SET_ADD, SET_DEL) and oid[0] == self.friends:
+            return refusal(21)
         if operation in (WRITE, SET_ADD, SET_DEL):
             return self.update(session, (operation, oid, what))
         seen = [update for site, seq, update in self.rows[oid] if sees(session.start, site, seq)]
@@ -605,12 +680,24 @@ class Site:
             meet(self.met, "bytes of a value", len(update[2]), 4096)
             if len(update[2]) > 4096:
                 return refusal(4)
-        size = session.size + len(update_of(update))
-        meet(self.met, "updates of a transaction", len(session.updates) + 1, 256)
+        return self.change(session, update)
+
+    def befriend(self, session, one, other, gain):
+        """Two persons become friends, or are friends no more: both of their lists are changed."""
+        if self.friends is None:
+            return refusal(23)
+        if one == other:
+            return refusal(22)
+        return self.change(session, *pair_of(self.friends, one, other, gain))
+
+    def change(self, session, *updates):
+        """These updates go into the transaction together, or none does."""
+        size = session.size + sum(len(update_of(update)) for update in updates)
+        meet(self.met, "updates of a transaction", len(session.updates) + len(updates), 256)
         meet(self.met, "bytes of a transaction", size, 60000)
-        if len(session.updates) >= 256 or size > 60000:
+        if len(session.updates) + len(updates) > 256 or size > 60000:
             return refusal(3)
-        session.updates.append(update)
+        session.updates.extend(updates)
         session.size = size
         return bytes([DONE])
 

@@ -16,7 +16,7 @@ LEAST_CAPACITY, CAPACITY, MOST_CAPACITY = 19, 16_777_216, 1_099_511_627_776
 MOST_ROOM, MOST_RATE, MOST_TICKS, MOST_THREADS = 100_000, 1000, 10_000, 32
 MOST_CALL, MOST_PACKET = 1_000_000, (1 << 32) - 1
 NEEDED = ("sites", "f", "containers", "clients", "steps")
-BESIDES = ("capacity", "areas", "room", "format", "link", "ticks", "threads", "arms")
+BESIDES = ("friends", "capacity", "areas", "room", "format", "link", "ticks", "threads", "arms")
 RATES = ("lose", "repeat", "swap")
 
 TEXTS = {
@@ -28,6 +28,7 @@ TEXTS = {
     "f": "f: wants a whole number below sites",
     "containers": 'container {}: wants [number, "regular" or "cset", site] in a list, numbers below 2^32 that rise, a site '
                   "below sites, at most 256",
+    "friends": "friends: wants the number of a container of sets that count",
     "clients": "client {}: wants [site, bytes] in a list, a site below sites, an even number of hex digits, at most 1024 of "
                "each site",
     "capacity": "the capacity: wants a whole number from 19 to 1099511627776",
@@ -235,6 +236,10 @@ def is_container(value, sites, least):
             and is_site(value[2], sites))
 
 
+def are_friends(value, containers):
+    return is_whole(value, 0, 1 << 32) and any(which == value and kind == "cset" for which, kind, _ in containers)
+
+
 def is_client(value, sites):
     return (are_items(value, 2) and is_site(value[0], sites) and type(value[1]) is str
             and re.fullmatch("(?:[0-9a-fA-F]{2})*", value[1]) is not None)
@@ -358,6 +363,8 @@ def check(value):
     if not is_whole(value["f"], 0, sites):
         refuse("f")
     check_containers(value["containers"], sites)
+    if "friends" in value and not are_friends(value["friends"], value["containers"]):
+        refuse("friends")
     check_clients(value["clients"], sites)
     if "capacity" in value and not is_whole(value["capacity"], LEAST_CAPACITY, MOST_CAPACITY + 1):
         refuse("capacity")

@@ -55,7 +55,7 @@ NO_DISK, UNTAKEN = 6, ("walter: {}/site-{}.journal could not be opened, read or 
 # What the trace says where an event met want of memory, of a call and of any other event.
 WANT_OF_CALL, WANT = "reply:" + frame(refusal(13)).hex(), "memory"
 # The calls that may meet it.
-WANTING = (START, READ, WRITE, SET_ADD, SET_DEL, SET_READ, COMMIT)
+WANTING = (START, READ, WRITE, SET_ADD, SET_DEL, SET_READ, COMMIT, HANDOVER, START_AT, TOKEN, BEFRIEND, UNFRIEND)
 # Of so many restarts that wanted memory in one run it is tried for each whether it has read the disk.
 MOST_UNTOLD = 6
 

@@ -52,6 +52,18 @@ def locked(oid, tid):
     return bytes([ABORTED]) + conflict_of((LOCKED, oid, tid))
 
 
+def moving(oid):
+    return bytes([ABORTED]) + conflict_of((MOVING, oid))
+
+
+def token_is(*numbers):
+    return bytes([TOKEN_IS]) + wide(numbers)
+
+
+def behind(site, have):
+    return refusal(19, struct.pack(">BQ", site, have))
+
+
 def is_level(number):
     return bytes([LEVEL_IS, number])
 
@@ -413,6 +425,181 @@ def the_lock_of_a_cause():
     return row
 
 
+def a_handover(*arms):
+    row = Row(2, 0, [REGULAR_AT_0], (0, 1), arms)
+    row.call(0, handover(1, 1), committed(0, 1), "Own", "1:propagate 1")
+    return row
+
+
+def a_handover_on_its_way():
+    """Who has handed a container over asks the new home, which doesn't know of it yet and says NO; and hands over no more."""
+    row = a_handover()
+    row.begins(0, (0, 1, 2), ((1, 5), b"a"))
+    row.call(0, COMMIT_IT, deciding(0, 1, 2), "SlowBegin", "1:prepare 1")
+    row.step("deliver", 1, 0, 2, to="passed", sends="0:vote 1 no")
+    row.step("deliver", 0, 1, 1, record="SlowEnd", sends="1:release 1")
+    row.call(0, COMMIT_IT, moving((1, 5)))
+    row.call(0, handover(1, 1), refusal(16, bytes([1])))
+    return row
+
+
+def a_handover_that_is_done():
+    row = a_handover_on_its_way()
+    row.step("deliver", 1, 0, 1, record="Got", sends="0:ack 1")
+    row.step("deliver", 0, 1, 2, record="Marks", sends="1:dsmark 1")
+    row.step("deliver", 1, 0, 4)
+    row.step("advance", 1, 0, record="Seen", sends="0:visible 1")
+    row.begins(1, (1, 1, 1), ((1, 5), b"b"))
+    row.call(1, COMMIT_IT, committed(1, 1), "Own", "0:propagate 1,0:dsmark 1")
+    return row
+
+
+def a_handover_that_is_only_received():
+    """Between Got and Seen the container is at nobody: a commit at the new site still asks the old one, which says NO."""
+    row = a_handover()
+    row.step("deliver", 1, 0, 1, record="Got", sends="0:ack 1")
+    row.begins(1, (1, 1, 1), ((1, 5), b"b"))
+    row.call(1, COMMIT_IT, deciding(1, 1, 1), "SlowBegin", "0:prepare 1")
+    row.call(1, handover(1, 0), refusal(16, bytes([0])))
+    row.step("deliver", 0, 1, 2, to="passed", sends="1:vote 1 no")
+    row.step("deliver", 1, 0, 2, record="SlowEnd", sends="0:release 1")
+    row.call(1, COMMIT_IT, moving((1, 5)))
+    return row
+
+
+def a_handover_while_locked():
+    """A container with a lock stays; the least object of it that is locked is named, with its owner."""
+    row = Row(2, 0, [REGULAR_AT_0], (0, 1))
+    row.begins(1, (1, 1, 1), ((1, 7), b"s"), ((1, 5), b"s"))
+    row.call(1, COMMIT_IT, deciding(1, 1, 1), "SlowBegin", "0:prepare 1")
+    row.step("deliver", 0, 1, 1, record="Prepared", sends="1:vote 1 yes")
+    busy = refusal(17, struct.pack(">IQ", 1, 5) + name_of((1, 1, 1)))
+    row.call(0, handover(1, 1), busy)
+    row.step("deliver", 1, 0, 1, record="Own", sends="0:propagate 1")
+    row.step("deliver", 0, 1, 2, record="Got", sends="1:ack 1")
+    row.call(0, handover(1, 1), busy)
+    row.step("deliver", 1, 0, 2, record="Marks", sends="0:dsmark 1")
+    row.step("deliver", 0, 1, 3)
+    row.step("advance", 0, 1, record="Seen", sends="1:visible 1")
+    row.call(0, handover(1, 1), committed(0, 1), "Own", "1:propagate 1")
+    return row
+
+
+def refused_handovers():
+    """The refusals of a handover come in this order, and none of them draws a name."""
+    row = Row(2, 0, [REGULAR_AT_0, REGULAR_AT_1], (0,))
+    row.calls(0, (handover(9, 0), refusal(1)), (handover(2, 0), refusal(18)), (handover(2, 2), refusal(18)),
+              (handover(2, 1), refusal(16, bytes([1]))), (handover(1, 0), refusal(18)), (START_IT, started(0, 1, 1)))
+    row.call(0, handover(1, 1), committed(0, 1), "Own", "1:propagate 1")
+    row.call(0, level(0, 1, 2), is_level(3))
+    return row
+
+
+def a_handover_at_whose_gate_the_disk_fails(choice, how_far, home):
+    """The handover is unsure, and who has a transaction open beside it is told that this is gone."""
+    row = Row(2, 0, [REGULAR_AT_0], (0,), [[0, 3, choice]])
+    row.calls(0, (START_IT, started(0, 1, 1)))
+    row.call(0, handover(1, 1), unsure(0, 1, 2), "Own")
+    row.call(0, handover(1, 1), refusal(9))
+    row.step("restart", 0, record="Boot")
+    row.call(0, level(0, 1, 2), is_level(how_far))
+    if home == 0:
+        row.call(0, handover(1, 1), committed(0, 1), "Own", "1:propagate 1")
+    else:
+        row.call(0, handover(1, 1), refusal(16, bytes([home])))
+    row.call(0, START_IT, gone(0, 1, 1))
+    return row
+
+
+def a_slow_commit_whose_objects_move(asked_again):
+    """A slow commit goes on asking whom it asked when it began, for what it wanted then, wherever its objects go meanwhile. Site 2
+    wants an object of site 0 and one of site 1; before it is asked site 0 hands its container to site 1."""
+    row = Row(3, 0, [REGULAR_AT_0, REGULAR_AT_1], (2, 0))
+    row.begins(0, (2, 1, 1), ((1, 5), b"a"), ((2, 5), b"a"))
+    row.call(0, COMMIT_IT, deciding(2, 1, 1), "SlowBegin", "0:prepare 1,1:prepare 1")
+    row.call(1, handover(1, 1), committed(0, 1), "Own", "1:propagate 1,2:propagate 1")
+    row.step("deliver", 1, 0, 1, record="Got", sends="0:ack 1")
+    row.step("deliver", 0, 1, 1, record="Marks", sends="1:dsmark 1,2:dsmark 1")
+    for site, ack in (1, 2), (2, 1):
+        if site == 2:
+            row.step("deliver", 2, 0, 1, record="Got", sends="0:ack 1")
+        row.step("deliver", site, 0, 2)
+        row.step("advance", site, 0, record="Seen", sends="0:visible 1")
+    if asked_again:
+        row.step("tick", 2, to="passed", sends="0:ack 1,0:visible 1,0:prepare 1,1:prepare 1")
+    row.step("deliver", 1, 2, 2 if asked_again else 1, record="Prepared", sends="2:vote 1 yes")
+    held = row.run.sites[1].locks[2, 1][1]
+    if held != ((2, 5),):
+        row.wrong.append(("what site 1 has locked", ((2, 5),), held))
+    row.step("deliver", 0, 2, 6 if asked_again else 1, to="passed", sends="2:vote 1 no")
+    row.step("deliver", 2, 0, 3, record="SlowEnd", sends="0:release 1,1:release 1")
+    row.call(0, COMMIT_IT, moving((1, 5)))
+    return row
+
+
+def a_token_that_is_behind():
+    row = one_commit_of_a_set()
+    row.call(0, bytes([TOKEN]), token_is(1, 0))
+    row.call(1, start_at((1, 0)), behind(0, 0))
+    return row
+
+
+def a_token_that_is_reached():
+    row = a_token_that_is_behind()
+    row.step("deliver", 1, 0, 1, record="Got", sends="0:ack 1")
+    row.step("deliver", 1, 0, 2)
+    row.call(1, start_at((1, 0)), behind(0, 0))
+    row.step("advance", 1, 0, record="Seen", sends="0:visible 1")
+    row.call(1, start_at((1, 0)), started(1, 1, 1))
+    row.call(1, on_set(SET_READ_ID, (3, 1), 9), bytes.fromhex("840000000000000001"))
+    return row
+
+
+def refused_tokens():
+    """The refusals of a StartAt, in their order; a refused one draws no name. A Gone stands before them, but not before a Token."""
+    row = Row(2, 0, [SET_AT_0], (0,))
+    bad = refusal(8, struct.pack(">I", 1))
+    row.calls(0, (bytes([START_AT, 0]), bad), (bytes([START_AT, 17]) + bytes(136), bad))
+    row.calls(0, (start_at((0,)), refusal(20)), (start_at((9, 9, 9)), refusal(20)), (start_at((7, 9)), behind(0, 0)),
+              (start_at((0, 9)), behind(1, 0)), (start_at((0, 0)), started(0, 1, 1)), (start_at((9,)), refusal(6)))
+    row.step("stop", 0)
+    row.calls(0, (bytes([TOKEN]), refusal(9)), (start_at((9,)), refusal(9)))
+    row.step("restart", 0, record="Boot")
+    row.calls(0, (bytes([TOKEN]), token_is(0, 0)), (start_at((9,)), gone(0, 1, 1)), (start_at((9,)), refusal(20)))
+    return row
+
+
+def set_of(*counts):
+    return struct.pack(">BI", SET, len(counts)) + b"".join(struct.pack(">Qq", *one) for one in counts)
+
+
+def two_friends():
+    row = Row(1, 0, [SET_AT_0], (0,), friends=3)
+    row.calls(0, (of_friends(BEFRIEND, 5, 7), refusal(5)), (START_IT, started(0, 1, 1)), (of_friends(BEFRIEND, 5, 7), DONE_IT),
+              (on_set(SET_READ, (3, 5)), set_of((7, 1))), (on_set(SET_READ, (3, 7)), set_of((5, 1))),
+              (on_set(SET_ADD, (3, 5), 7), refusal(21)), (on_set(SET_DEL, (3, 5), 7), refusal(21)),
+              (on_set(SET_ADD, (4, 5), 7), refusal(1)), (of_friends(BEFRIEND, 5, 5), refusal(22)),
+              (of_friends(UNFRIEND, 7, 5), DONE_IT), (on_set(SET_READ, (3, 5)), set_of()), (on_set(SET_READ, (3, 7)), set_of()))
+    return row
+
+
+def friends_whole_or_not():
+    """Of two updates of which one alone has a place neither goes in."""
+    row = Row(1, 0, [SET_AT_0, [4, "cset", 0]], (0,), friends=3)
+    row.calls(0, (START_IT, started(0, 1, 1)), *[(on_set(SET_ADD, (4, 1), number), DONE_IT) for number in range(255)],
+              (of_friends(BEFRIEND, 5, 7), refusal(3)), (on_set(SET_ADD, (4, 1), 255), DONE_IT))
+    row.call(0, COMMIT_IT, committed(0, 1), "Own")
+    row.calls(0, (START_IT, started(0, 1, 2)), (on_set(SET_READ, (3, 5)), set_of()))
+    return row
+
+
+def no_friends():
+    row = Row(1, 0, [SET_AT_0], (0,))
+    row.calls(0, (of_friends(BEFRIEND, 5, 5), refusal(5)), (START_IT, started(0, 1, 1)), (of_friends(BEFRIEND, 5, 5), refusal(23)),
+              (on_set(SET_ADD, (3, 5), 7), DONE_IT))
+    return row
+
+
 def commits_of_a_set(row, count):
     """Client 0 adds to the set so many times, in a transaction each, and nothing is delivered."""
     for number in range(1, count + 1):
@@ -568,6 +755,21 @@ ROWS = {
     "an upgrade at whose gate the disk fails is found": lambda: a_stop_at_the_upgrade(3, 1, "passed"),
     "an upgrade at whose gate the disk fails is lost": lambda: a_stop_at_the_upgrade(3, 7, "taken"),
     "a slow commit asks fifteen sites": sixteen_sites,
+    "a handover is on its way": a_handover_on_its_way,
+    "a handover is done": a_handover_that_is_done,
+    "a handover is only received": a_handover_that_is_only_received,
+    "a container that is locked stays": a_handover_while_locked,
+    "handovers are refused": refused_handovers,
+    "a handover at whose gate the disk fails is found": lambda: a_handover_at_whose_gate_the_disk_fails(1, 3, 1),
+    "a handover at whose gate the disk fails is lost": lambda: a_handover_at_whose_gate_the_disk_fails(7, 0, 0),
+    "a slow commit whose objects move asks as it began": lambda: a_slow_commit_whose_objects_move(False),
+    "a slow commit whose objects move asks again as it began": lambda: a_slow_commit_whose_objects_move(True),
+    "a token is ahead of a site": a_token_that_is_behind,
+    "a token is reached": a_token_that_is_reached,
+    "starts at a token are refused": refused_tokens,
+    "two friends are made, and are friends no more": two_friends,
+    "two friends are made whole or not": friends_whole_or_not,
+    "there are no friend lists": no_friends,
 }
 
 

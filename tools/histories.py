@@ -16,7 +16,7 @@ KINDS = {"committed": "ok", "ended": "ok", "aborted": "fail", "unsure": "info"}
 # What a history is of: the word of its transactions, and of each call that it tells the word in the history.
 Kind = namedtuple("Kind", "word does")
 REGISTERS = Kind("txn", {"read": "r", "write": "w"})
-SETS = Kind("sets", {"setread": "r", "setreadid": "count", "setadd": "add", "setdel": "del"})
+SETS = Kind("sets", {"setread": "r", "setreadid": "count", "setadd": "add", "setdel": "del", "befriend": "add", "unfriend": "del"})
 ANSWERED = ("r", "count")
 
 
@@ -42,7 +42,7 @@ class History:
     """The transactions of a run that do what a history is of, in the order of its calls."""
 
     def __init__(self, run, kind=REGISTERS):
-        self.kind, self.clients = kind, len(run.scenario.names)
+        self.kind, self.clients, self.friends = kind, len(run.scenario.names), run.scenario.friends
         # A client that isn't told the end of a transaction goes on as another process.
         self.process, self.open = list(range(self.clients)), {}
         self.events = []
@@ -58,8 +58,11 @@ class History:
         if reply.kind == "started":
             self.open[client] = Transaction(reply.fields, self.process[client])
             self.events.append((self.open[client], "invoke"))
-        elif client not in self.open:
+        elif client not in self.open or word in transactions.APART:
             return
+        elif word in ("befriend", "unfriend") and word in self.kind.does and reply.kind != "refused":
+            self.open[client].does += [(self.kind.does[word], ["%d:%d" % oid, what], None)
+                                       for _, oid, what in transactions.updates_of(word, frame, self.friends)]
         elif word in self.kind.does and reply.kind != "refused":
             self.open[client].does.append(self.done(word, frame, reply))
         elif reply.kind in KINDS:

@@ -28,7 +28,7 @@ class Holding:
         for kind, oid, what in transaction.updates:
             if kind == "write":
                 self.values[oid] = scripts.words_of_value(what)
-            else:
+            elif kind != "move":
                 self.counts.setdefault(oid, Counter())[what] += 1 if kind == "setadd" else -1
 
     def objects(self):
@@ -80,6 +80,7 @@ class Watched(runs.Run):
             ("committed", last_of(list(map(words.version, holding.commits)), MOST_COMMITS)),
             ("received, not committed", last_of(waits, MOST_COMMITS) if waits else None),
             ("holds", last_of(holding.objects(), MOST_OBJECTS)),
+            ("containers", self.moved(site)),
             ("marks", f"durable {site.durable()}, visible {self.visible(me)}" if site.committed[me] else None),
             ("peers", "; ".join(self.said_by_peers(me)) if self.up[me] else None),
             ("locks", ", ".join(f"{words.objects(lock.objects)} for {words.name(lock.name)}" for lock in site.locks.values())),
@@ -88,6 +89,11 @@ class Watched(runs.Run):
                                   if self.scenario.homes[one.client] == me and one.name not in self.lost)),
         ]
         return [[name, text] for name, text in told if text]
+
+    def moved(self, site):
+        """Where the containers are preferred by the site's log, of which one was handed over."""
+        declared = {number: home for number, (_, home) in self.scenario.containers.items()}
+        return "; ".join(f"{number} is at {home}" for number, home in site.homes.items() if home != declared[number])
 
     def visible(self, me):
         site = self.sites[me]

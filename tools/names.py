@@ -13,7 +13,7 @@ import scripts
 sys.path.append(os.path.join(os.path.dirname(os.path.abspath(__file__)), "..", "bench"))
 import model
 import pumps
-from spelled import STARTED
+from spelled import STARTED, TOKEN_IS
 
 # How many steps one `settle` may become.
 MOST_SETTLING = 100_000
@@ -44,6 +44,8 @@ class Course:
         self.run.calls = [model.calls_of(sent, Counter()) for sent in self.sent]
         self.ends, self.place, self.bound, self.bound_of = [0] * len(self.sent), 0, 0, ""
         self.steps, self.places, self.faults = [], [], []
+        # The tokens that were given, by their names.
+        self.tokens = {}
         self.came, self.lost = {lane: {} for lane in self.run.arrived}, {lane: {} for lane in self.run.arrived}
 
     def play(self):
@@ -96,9 +98,21 @@ class Course:
         started = [reply for reply in self.run.replies[item.client] if item.last and reply[4] == STARTED]
         if started:
             self.sent[item.client][begins + 5 : begins + len(item.frame)] = started[-1][5:]
+        token = self.tokens.get(item.at)
+        if token:
+            self.sent[item.client][begins + 5 : begins + len(item.frame)] = token
         self.step("call", item.client)
+        self.keep_token(item)
         if item.last and not started:
             raise scripts.Unfit("last", "a transaction that the client has started: there is none")
+        if item.at and not token:
+            raise scripts.Unfit(item.at, "a token that was given: the request for it was refused")
+
+    def keep_token(self, item):
+        """The token that a client was given has the name of its line from now on."""
+        replies = self.run.replies[item.client]
+        if item.keeps and replies and replies[-1][4] == TOKEN_IS:
+            self.tokens[item.keeps] = replies[-1][5:]
 
     # Packets
 

@@ -52,8 +52,11 @@ class Observing:
             one.rank = self.ranks.get(reply.fields)
             self.open[client] = one
             self.transactions.append(one)
-        elif one is None:
+        elif one is None or word in transactions.APART:
             return
+        elif word in ("befriend", "unfriend") and reply.kind != "refused":
+            one.operations += [Operation(DOES[kind], words.pair(oid), None, what, place_of(step))
+                               for kind, oid, what in transactions.updates_of(word, frame, self.run.scenario.friends)]
         elif word in DOES and reply.kind != "refused":
             one.operations.append(operation(DOES[word], frame, reply, place_of(step)))
         elif reply.kind in ENDS:

@@ -22,6 +22,8 @@ MOST_WIDE, NARROW_GAP = 8, 54
 LONGEST, BEND = 110, 14
 # How long a packet's line is that no site took, and how many of them a fan has before they are drawn by kind.
 STUB, FAN = 26, 6
+# How far from its column a container's mark stands, and how far the marks of further ones, of so many.
+HOME, HOME_STEP, MOST_HOMES = 20, 6, 5
 FLAT, STEEP = 0.02 * math.pi, 0.31 * math.pi
 # Spreading is thin and slow commits are thick; of each kind of packet, how its line is dashed.
 LINES = {
@@ -113,6 +115,7 @@ class Picture:
         self.short = {moment: self.said(moment, False) for moment in self.moments}
         self.longest = max(map(len, self.short.values()))
         self.bars = self.locks()
+        self.homes = self.stays_at_home()
         self.width_of_bars = BAR * (1 + max((slot for *_, slot in self.bars), default=-1))
         self.legend = Legend(self)
         self.width = max(self.words_at() + self.longest * LETTER, self.legend.width) + MARGIN
@@ -173,6 +176,14 @@ class Picture:
             bars.append((lock, slot))
         return bars
 
+    def stays_at_home(self):
+        """The stays of containers that are handed over, each with its place beside the column, of those within the picture."""
+        stays, order = self.run.stays(), {moment: place for place, moment in enumerate(self.all)}
+        places = {container: place for place, container in enumerate(sorted({stay.container for stay in stays}))}
+        first, last = order[self.moments[0]], order[self.moments[-1]]
+        return [(stay, places[stay.container]) for stay in stays
+                if (order[stay.begins] if stay.begins else 0) <= last and (order[stay.ends] if stay.ends else len(order)) >= first]
+
     def deliveries(self):
         """Each packet with each moment that took it, where either end is in the picture."""
         return [(packet, came) for lane in self.run.lanes.values() for packet in lane for came in packet.came
@@ -224,6 +235,15 @@ class Picture:
         begins = self.y(lock.begins)
         title = f"site {lock.site}: {words.objects(lock.objects)} locked by {words.name(lock.name)}"
         return bar_of(x, begins, max(3, ends - begins), self.colour(lock.name), title)
+
+    def home(self, stay, place):
+        """A mark in the column of the site that a container is at home at, as long as it is, with the container's number."""
+        begins = self.y(stay.begins) if stay.begins else self.top
+        ends = self.y(stay.ends) if stay.ends else self.bottom + 4
+        x = self.x(stay.site) - HOME - HOME_STEP * (place % MOST_HOMES)
+        title = f"container {stay.container} is at home at site {stay.site}"
+        drawn = home_of(x, max(begins, self.top), ends) + label(x - 3, max(begins, self.top) + FONT, str(stay.container), "end")
+        return tag("g", drawn, title, kind="home")
 
     def arrow(self, packet, came):
         """From the entry that put a packet out to one that took it, where it has its head if that is in the picture."""
@@ -302,6 +322,7 @@ class Picture:
     def svg(self, **more):
         """The picture; as a part of another one where it has a place there."""
         parts = [self.background(), self.heading(), self.columns(), [self.bar(lock, slot) for lock, slot in self.bars],
+                 [self.home(*one) for one in self.homes],
                  self.stubs(), [self.arrow(packet, came) for packet, came in self.deliveries()],
                  [self.entry(moment) for moment in self.moments], self.legend.parts(self.bottom + 2 * ROW)]
         body = "\n".join(part for some in parts for part in some)
@@ -332,6 +353,8 @@ class Legend:
             (any(not (one.wrote or one.flight or one.kept) for one in entries),
              lambda x, y: line((x - 5, y), (x + 5, y), kind="none", stroke=PLAIN), "no record"),
             (self.picture.bars, lambda x, y: bar_of(x - 2, y - 7, 14, PLAIN), "a slow commit's locks"),
+            (self.picture.homes, lambda x, y: home_of(x, y - 7, y + 7),
+             "a container at home, of those that are handed over"),
             ("taken" in came, lambda x, y: arrow_of(x, y, "taken"), "a packet that is taken"),
             (came - {"taken"}, lambda x, y: arrow_of(x, y, "passed"), "a packet that changes nothing"),
             (lost, lambda x, y: stub_of(x, y, "propagate"), "a packet that never came"),
@@ -387,6 +410,12 @@ def found_of(x, y, colour):
 
 def bar_of(x, y, height, colour, title=None):
     return tag("rect", None, title, kind="lock", x=x, y=y, width=BAR - 3, height=height, fill=colour, stroke=colour)
+
+
+def home_of(x, begins, ends):
+    """A line with a roof, as long as a container is at home."""
+    roof = f"{x - 4:.1f},{begins + 5:.1f} {x:.1f},{begins:.1f} {x + 4:.1f},{begins + 5:.1f}"
+    return line((x, begins), (x, ends), stroke=PLAIN) + tag("polyline", points=roof, fill="none", stroke=PLAIN)
 
 
 def swatch(x, y, colour):

@@ -12,7 +12,8 @@ MOST_VALUE, MOST_OF_TRANSACTION, BEFORE_UPDATES = 4096, 60_000, 87
 FORMS, MOST_OF_FIRST = (1, 2), 8
 LOAD_SITES, MOST_CALLS = 3, 20_000
 PACKETS = ("propagate", "ack", "dsmark", "visible", "prepare", "vote", "release", "released")
-CALLS = ("start", "read", "write", "setadd", "setdel", "setread", "setreadid", "commit", "abort", "level", "bad")
+CALLS = ("start", "read", "write", "setadd", "setdel", "setread", "setreadid", "commit", "abort", "level", "handover", "startat",
+         "token", "befriend", "unfriend", "bad")
 
 # A client's line: its site, and the frames of its replies.
 Client = namedtuple("Client", "site replies")
@@ -25,7 +26,8 @@ Report = namedtuple("Report", "sites tolerated clients lines entries")
 SiteLine = namedtuple("SiteLine", "place up epoch events records got committed log")
 # A record: its kind, and of these what it has. `site` is another site, `number` an epoch, a commit, a slow commit, or a format.
 Record = namedtuple("Record", "kind site number transaction name objects marks", defaults=(None,) * 6)
-# An update is its kind, `write`, `setadd` or `setdel`, the object, and its bytes or its id.
+# An update is its kind, `write`, `setadd` or `setdel`, the object, and its bytes or its id; or `move`, a container, and the site
+# that it is handed to.
 Transaction = namedtuple("Transaction", "name slow snapshot updates")
 Reply = namedtuple("Reply", "kind fields")
 # The summary of a load: how many replies there were of each kind, and the lines of its sites, of which `log` is a count.
@@ -124,7 +126,9 @@ def transaction_of(cursor, sites, form):
 
 def update_of(cursor):
     kind = cursor.number("B")
-    require(kind in (1, 2, 3))
+    require(kind in (1, 2, 3, 4))
+    if kind == 4:
+        return "move", *cursor.take("IB")
     oid = cursor.take("IQ")
     if kind == 1:
         value = cursor.block()
@@ -161,7 +165,13 @@ def record_in(form, data, sites):
     record = record_spelled(form, data, sites)
     require(record.site is None or record.site < sites)
     require(record.transaction is None or record.transaction.name[0] < sites)
+    require(all(to < sites for _, to in moves_of(record.transaction)))
     return record
+
+
+def moves_of(transaction):
+    """What a transaction hands over: containers, each with its site."""
+    return [update[1:] for update in transaction.updates if update[0] == "move"] if transaction else []
 
 
 def record_spelled(form, data, sites):
@@ -222,6 +232,10 @@ def reply_at(cursor, kind):
         level = cursor.number("B")
         require(level <= 5)
         return Reply("level", level)
+    if kind == 0x8B:
+        width = cursor.number("B")
+        require(1 <= width <= MOST_SITES)
+        return Reply("token", cursor.take(f"{width}Q"))
     require(kind == 0xE0)
     return Reply("refused", refusal_of(cursor))
 
@@ -236,18 +250,20 @@ def counts_of(cursor):
 def conflict_of(cursor):
     """The cause of an abort: a word, and of a conflict the object and what stands in the way of it."""
     cause = cursor.number("B")
-    require(cause in (1, 2, 3))
+    require(cause in (1, 2, 3, 4))
     if cause == 3:
         return ("asked",)
     oid = cursor.take("IQ")
+    if cause == 4:
+        return "moving", oid
     return ("modified", oid, cursor.take("BQ")) if cause == 1 else ("locked", oid, cursor.take("BIQ"))
 
 
 def refusal_of(cursor):
     """Why a call was refused: the number, and what stands behind it."""
     why = cursor.number("B")
-    require(1 <= why <= 15)
-    behind = {7: "BIQ", 8: "I", 10: "QQ"}.get(why)
+    require(1 <= why <= 23)
+    behind = {7: "BIQ", 8: "I", 10: "QQ", 16: "B", 17: "IQBIQ", 19: "BQ"}.get(why)
     return (why, cursor.take(behind)) if behind else (why, None)
 
 

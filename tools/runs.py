@@ -74,6 +74,7 @@ class Scenario:
         self.script, self.title = script, "" if is_json else title_of(text)
         self.sites, self.tolerated = script.sites, script.tolerated
         self.containers = {number: (kind, site) for number, kind, site in script.containers}
+        self.friends = script.friends
         self.names = list(script.numbers)
         self.homes = [site for site, _ in script.clients]
         self.calls, self.rests = zip(*(calls_of(bytes(sent)) for _, sent in script.clients)) if script.clients else ((), ())
@@ -89,9 +90,6 @@ class Scenario:
         """The lines of a script with a link that deliver without it."""
         settles = (item.place for item in self.script.items if isinstance(item, scripts.Named) and item.word == "settle")
         return list(settles) if self.script.link and self.steps else []
-
-    def home(self, oid):
-        return self.containers.get(oid[0], ("", 0))[1]
 
     def regular(self, transaction):
         """The regular objects that a transaction writes, rising."""
@@ -121,8 +119,8 @@ class Moment:
     def __init__(self, entry):
         self.entry, self.site = entry, entry.site
         # `name` is the transaction of a call, `acked` how many commits the sender of an ACK had acknowledged before, and `pump` the
-        # step of the pump that has brought a site up, where a restart finds it up.
-        self.call = self.packet = self.news = self.name = self.acked = self.wanting = self.pump = None
+        # step of the pump that has brought a site up, where a restart finds it up, and `committed` what is committed by the entry.
+        self.call = self.packet = self.news = self.name = self.acked = self.wanting = self.pump = self.committed = None
         self.sends, self.is_pumped = [], False
 
 
@@ -133,11 +131,19 @@ class Lock:
         self.site, self.name, self.objects, self.begins, self.ends = site, name, objects, moment, None
 
 
-class Slow:
-    """A slow commit of this site: its transaction, whom it asks, who said YES, and who confirmed its RELEASE."""
+class Home:
+    """A container that is at home at a site, from a moment on or from the start, up to another if it was given away."""
 
-    def __init__(self, transaction, asked):
-        self.transaction, self.asked, self.stands = transaction, asked, "undecided"
+    def __init__(self, site, container, begins=None):
+        self.site, self.container, self.begins, self.ends = site, container, begins, None
+
+
+class Slow:
+    """A slow commit of this site: its transaction, what it wants of each site, whom it asks, who said YES, and who confirmed its
+    RELEASE."""
+
+    def __init__(self, transaction, wanted, asked):
+        self.transaction, self.wanted, self.asked, self.stands = transaction, wanted, asked, "undecided"
         self.yes, self.confirmed = set(), set()
 
 
@@ -149,6 +155,10 @@ class Site:
         self.log, self.held = [], {}
         self.got, self.committed = [0] * scenario.sites, [0] * scenario.sites
         self.slows, self.locks, self.over, self.all_locks = {}, {}, set(), []
+        # Where each container is preferred by this site's log, and at which sites each own commit is to be held.
+        self.homes, self.placed = {number: site for number, (_, site) in scenario.containers.items()}, {}
+        # The stays of containers that are at home here.
+        self.stays = [Home(me, number) for number, site in self.homes.items() if site == me]
         self.floors, self.flight, self.is_upgraded = (0, 0), None, False
         self.go_down()
 
@@ -173,11 +183,36 @@ class Site:
         self.held[site, record.number] = record.transaction
         self.got[site] = record.number
 
+    def home(self, oid):
+        return self.homes.get(oid[0], 0)
+
+    def places(self, updates):
+        """Where updates are to be held: of a handover at the old home and at the new one."""
+        return {site for kind, where, what in updates
+                for site in ((self.homes.get(where, 0), what) if kind == "move" else (self.home(where),))}
+
+    def hand_over(self, transaction, moment):
+        """What a commit hands over is at home elsewhere from then on, by this site's log."""
+        for container, to in reports.moves_of(transaction):
+            if self.homes.get(container) == self.me != to:
+                next(one for one in reversed(self.stays) if one.container == container).ends = moment
+            elif self.homes.get(container) != self.me == to:
+                self.stays.append(Home(self.me, container, moment))
+            self.homes[container] = to
+
     def own(self, record, moment):
+        self.placed[record.number] = self.places(record.transaction.updates)
         self.keep(self.me, record)
+        self.hand_over(record.transaction, moment)
         self.committed[self.me] = record.number
         if record.transaction.slow in self.slows:
             self.end(record.transaction.slow, moment, "decided")
+
+    def committed_by(self, record):
+        """The transaction that a record commits here, if it is of one."""
+        if record is None or record.kind not in ("Own", "Seen"):
+            return None
+        return record.transaction or self.held.get(at_of(record))
 
     def receive(self, record, _):
         self.keep(record.site, record)
@@ -185,6 +220,7 @@ class Site:
     def see(self, record, moment):
         self.committed[record.site] = record.number
         transaction = self.held.get((record.site, record.number))
+        self.hand_over(transaction, moment)
         if transaction and transaction.slow:
             self.let_go(record.site, transaction.slow, moment)
 
@@ -199,9 +235,9 @@ class Site:
         self.let_go(record.site, record.number, moment)
 
     def slow_begin(self, record, moment):
-        objects, home = self.scenario.regular(record.transaction), self.scenario.home
-        asked = sorted({home(oid) for oid in objects} - {self.me})
-        self.slows[record.number] = Slow(record.transaction, asked)
+        asked = sorted({self.home(oid) for oid in self.scenario.regular(record.transaction)} - {self.me})
+        wanted = {site: self.here(record.transaction, site) for site in asked}
+        self.slows[record.number] = Slow(record.transaction, wanted, asked)
         self.lock(self.me, record.number, record.transaction.name, self.here(record.transaction), moment)
 
     def slow_end(self, record, moment):
@@ -231,7 +267,7 @@ class Site:
 
     def here(self, transaction, site=None):
         site = self.me if site is None else site
-        return tuple(oid for oid in self.scenario.regular(transaction) if self.scenario.home(oid) == site)
+        return tuple(oid for oid in self.scenario.regular(transaction) if self.home(oid) == site)
 
     def durable(self):
         """The durable mark. What peers have said only grows until the site goes down, so it is counted on."""
@@ -241,12 +277,14 @@ class Site:
 
     def is_durable(self, number):
         holders = {self.me, *(peer for peer, acked in self.acked.items() if acked >= number)}
-        homes = {self.scenario.home(oid) for _, oid, _ in self.held[self.me, number].updates}
-        return len(holders) > self.scenario.tolerated and homes <= holders
+        return len(holders) > self.scenario.tolerated and self.placed[number] <= holders
 
     def against(self, objects, asking):
-        """What stands in the way of a transaction's lock: a version outside its snapshot, or another lock."""
+        """What stands in the way of a transaction's lock: that an object isn't preferred here, a version outside its snapshot, or
+        another lock."""
         for oid in objects:
+            if self.home(oid) != self.me:
+                return "moving", oid
             for site, number, transaction in self.log:
                 if number > asking.snapshot[site] and any(one[:2] == ("write", oid) for one in transaction.updates):
                     return "modified", oid, (site, number)
@@ -299,8 +337,8 @@ class Site:
     def says_prepare(self, number, receiver):
         if number not in self.slows:
             return Says(number)
-        transaction = self.slows[number].transaction
-        return Says(number, transaction, transaction.name, self.here(transaction, receiver))
+        slow = self.slows[number]
+        return Says(number, slow.transaction, slow.transaction.name, slow.wanted.get(receiver, ()))
 
     def says_vote(self, moment):
         asks = moment.packet.says
@@ -343,7 +381,7 @@ class Run:
         self.check_report()
         self.sites = [Site(scenario, me) for me in range(scenario.sites)]
         self.lanes = {(one, other): [] for one in range(scenario.sites) for other in range(scenario.sites) if one != other}
-        self.made, self.sessions = Counter(), transactions.Sessions()
+        self.made, self.sessions = Counter(), transactions.Sessions(scenario.friends)
         self.moments = [self.moment(entry) for entry in report.entries]
         self.arms = []
         self.steps = Steps(self).all() if report.entries else list(replies_of(self))
@@ -363,6 +401,8 @@ class Run:
         if entry.event[0] == "call":
             moment.call = self.next_call(entry)
             moment.name = self.sessions.take(*moment.call, reports.reply_of(entry.outcome[1]))
+            if entry.event[2] == "handover":
+                moment.name = self.sessions.hand_over(*moment.call, entry.wrote or entry.flight)
         elif entry.event[0] == "deliver":
             moment.packet = self.packet(entry)
             moment.packet.came.append(moment)
@@ -371,6 +411,7 @@ class Run:
         for record in (entry.kept, entry.wrote):
             if record:
                 site.learn(record, moment)
+        moment.committed = site.committed_by(entry.wrote)
         moment.news = tuple(now if now > was else None for was, now in zip(before, site.floors))
         if moment.packet and entry.outcome[0] == "taken":
             site.hear(moment)
@@ -383,8 +424,7 @@ class Run:
         _, client, name = entry.event
         calls, made = self.scenario.calls[client], self.made[client]
         self.made[client] += 1
-        words = scripts.words_of(calls[made])
-        if (words.split()[0] if words else "bad") != name:
+        if transactions.word_of(calls[made]) != name:
             raise reports.wrong(entry.place, f"the next call of {self.scenario.names[client]}")
         self.check_call(entry, client, calls[made])
         return client, calls[made]
@@ -393,8 +433,14 @@ class Run:
         """A call is answered as it may be, and what it records is the client's transaction."""
         name, record = self.scenario.names[client], entry.wrote or entry.flight
         check_answer(entry.place, name, frame, reports.reply_of(entry.outcome[1]))
-        if record and not (record.transaction and self.sessions.has(client, record.transaction)):
+        if record and not (record.transaction and self.is_of(client, frame, record.transaction)):
             raise reports.wrong(entry.place, f"a record of what {name} has done since its start")
+
+    def is_of(self, client, frame, transaction):
+        """Whether a recorded transaction is what a call is to commit: the client's own, or a handover."""
+        if transactions.word_of(frame) == "handover":
+            return transaction.updates == (("move", *struct.unpack_from(">IB", frame, 5)),) and transaction.slow == 0
+        return self.sessions.has(client, transaction)
 
     def check_records(self, entry):
         """What a restart finds was in flight, and what a site receives or decides is what was committed or begun."""
@@ -425,6 +471,12 @@ class Run:
             told[receiver, kind] += 1
             lane.append(Packet(moment.site, receiver, len(lane) + 1, kind, says, moment))
             moment.sends.append(lane[-1])
+
+    def stays(self):
+        """Where those containers were at home that were handed over."""
+        stays = [stay for site in self.sites for stay in site.stays]
+        moved = {stay.container for stay in stays if stay.begins or stay.ends}
+        return [stay for stay in stays if stay.container in moved]
 
     def locks(self):
         return [lock for site in self.sites for lock in site.all_locks]

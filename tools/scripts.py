@@ -21,7 +21,14 @@ OPERATIONS = {
     "commit": (8, ()),
     "abort": (9, ()),
     "level": (10, ("transaction",)),
+    "handover": (11, ("container", "to", "site")),
+    "startat": (12, ("token",)),
+    "token": (13, ()),
+    "befriend": (14, ("person", "person")),
+    "unfriend": (15, ("person", "person")),
 }
+# How a script says an operation, where it isn't the operation's own word; and words that stand between fields.
+SAID, BETWEEN = {"startat": "start at"}, ("to",)
 WORDS = {number: word for word, (number, _) in OPERATIONS.items()}
 MOST_BODY = 65536
 PACKETS = ("PROPAGATE", "ACK", "DSMARK", "VISIBLE", "PREPARE", "VOTE", "RELEASE", "RELEASED")
@@ -41,7 +48,11 @@ NUMBERS = {
     "object": (">IQ", ":", "an object as container:number", ("a container", "a number of an object")),
     "id": (">Q", " ", "an id, a whole number below 2^64", ("an id",)),
     "transaction": (">BIQ", ".", "a transaction as site.epoch.number", ("a site", "an epoch", "a number of a transaction")),
+    "container": (">I", " ", "a container, a whole number below 2^32", ("a container",)),
+    "site": (">B", " ", "a site, a whole number below 2^8", ("a site",)),
+    "person": (">Q", " ", "a person, a whole number below 2^64", ("a person",)),
 }
+MOST_WIDTH = 16
 STEPS = ("arm", "stop", "restart", "deliver", "advance", "tick", "upgrade", "pump")
 LINK = ("seed", "lose", "repeat", "swap")
 MOST_ROOM, MOST_RATE, MOST_TICKS, MOST_THREADS = 100_000, 1000, 10_000, 32
@@ -133,8 +144,23 @@ def value_of(tokens):
     )
 
 
+def token_of(word):
+    """The bytes of a token that is told by its numbers."""
+    numbers = word.split(",")
+    if not 1 <= len(numbers) <= MOST_WIDTH or not all(re.fullmatch("[0-9]+", one) and int(one) < 1 << 64 for one in numbers):
+        raise Unfit(word, f"a token that was given, or 1 to {MOST_WIDTH} whole numbers below 2^64 with commas between them")
+    return bytes([len(numbers)]) + struct.pack(f">{len(numbers)}Q", *map(int, numbers))
+
+
 def field_of(kind, tokens):
     """The bytes of a request's field, whose words are taken from the tokens."""
+    if kind in BETWEEN:
+        word = tokens.pop(0) if tokens else ""
+        if word != kind:
+            raise Unfit(word, kind)
+        return b""
+    if kind == "token":
+        return token_of(tokens.pop(0) if tokens else "")
     if kind == "value":
         value = value_of(tokens)
         return struct.pack(">I", len(value)) + value
@@ -151,7 +177,8 @@ def field_of(kind, tokens):
 
 def form_of(word):
     """How the line of a request is to be."""
-    return " ".join(["NAME:", word, *(kind.upper() for kind in OPERATIONS[word][1])])
+    fields = [kind if kind in BETWEEN else kind.upper() for kind in OPERATIONS[word][1]]
+    return " ".join(["NAME:", SAID.get(word, word), *fields])
 
 
 @functools.lru_cache(maxsize=16384)
@@ -159,8 +186,11 @@ def frame_of(words):
     """The frame of a request, by its words."""
     tokens = TOKEN.findall(words)
     word = tokens.pop(0) if tokens else ""
-    if word not in OPERATIONS:
-        raise Unfit(word, f"bytes, again, or one of {', '.join(OPERATIONS)}", "NAME: OPERATION ..")
+    if word == "start" and tokens[:1] == ["at"]:
+        word += tokens.pop(0)
+    elif word not in OPERATIONS or word in SAID:
+        said = ", ".join(SAID.get(one, one) for one in OPERATIONS)
+        raise Unfit(word, f"bytes, again, or one of {said}", "NAME: OPERATION ..")
     operation, kinds = OPERATIONS[word]
     try:
         body = bytes([operation]) + b"".join(field_of(kind, tokens) for kind in kinds)
@@ -181,6 +211,11 @@ def words_of_value(value):
 
 def words_of_field(kind, body):
     """The words of a field with which bytes begin, and what is behind it."""
+    if kind in BETWEEN:
+        return kind, body
+    if kind == "token":
+        width = body[0] if body else 0
+        return ",".join(map(str, struct.unpack(f">{width}Q", body[1 : 1 + 8 * width]))), body[1 + 8 * width :]
     packed, between, *_ = NUMBERS.get(kind, (">I", ""))
     size = struct.calcsize(packed)
     numbers, rest = struct.unpack(packed, body[:size]), body[size:]
@@ -195,7 +230,7 @@ def words_of(frame):
     word = WORDS.get(frame[4]) if len(frame) > 4 else None
     if word is None:
         return None
-    words, rest = [word], frame[5:]
+    words, rest = [SAID.get(word, word)], frame[5:]
     try:
         for kind in OPERATIONS[word][1]:
             text, rest = words_of_field(kind, rest)
@@ -224,8 +259,9 @@ def front(sent, at):
 
 
 # What the lines of a script say: a client's request with its turn, where `last` asks for the level of the transaction that it
-# started last; bytes without a turn; a step by its numbers; and what is said by name, which names.py works out.
-Turn = namedtuple("Turn", "place client frame last", defaults=(False,))
+# started last, `keeps` names the token that it is given, and `at` the one that it starts at; bytes without a turn; a step by its
+# numbers; and what is said by name, which names.py works out.
+Turn = namedtuple("Turn", "place client frame last keeps at", defaults=(False, None, None))
 Sent = namedtuple("Sent", "place client sent")
 Step = namedtuple("Step", "place made")
 Named = namedtuple("Named", "place word fields")
@@ -237,11 +273,13 @@ class Script:
 
     def __init__(self):
         self.place = 0
+        self.friends = None
         self.sites = self.tolerated = self.capacity = self.areas = self.room = self.format = self.link = self.ticks = self.threads = None
         self.containers, self.arms, self.armed_at = [], [], []
         # The lines of what stands once in a script: settings by their words, and containers by their numbers.
         self.once = {}
-        self.clients, self.numbers, self.items = [], {}, []
+        # The names of tokens that the lines so far give.
+        self.clients, self.numbers, self.items, self.tokens = [], {}, [], set()
         self.steps, self.places = [], []
 
     def site(self, text):
@@ -324,6 +362,13 @@ class Script:
         if len(self.containers) == MOST_CONTAINERS:
             raise Unfit(which, f"at most {MOST_CONTAINERS} containers")
         self.containers.append([int(which), "cset" if kind == "set" else kind, self.site(site)])
+
+    def take_friends(self, which):
+        self.take_once("friends")
+        sets = [str(number) for number, kind, _ in self.containers if kind == "cset"]
+        if which not in sets:
+            raise Unfit(which, f"a container of sets that a line before this one has: {', '.join(sets) or 'there is none'}")
+        self.friends = int(which)
 
     def take_client(self, name, site):
         if not re.fullmatch(NAME, name) or name in self.numbers:
@@ -417,8 +462,28 @@ class Script:
             self.items.append(Turn(self.place, client, b""))
         elif tokens == ["level", "last"]:
             self.items.append(Turn(self.place, client, LEVEL_OF_NONE, True))
+        elif tokens[:2] == ["token", "as"]:
+            if len(tokens) != 3 or not re.fullmatch(NAME, tokens[2]):
+                wants = "a name of the token: letters, digits, _ and -, no digit first"
+                raise Unfit(" ".join(tokens[2:]), wants, "NAME: token as TOKEN")
+            self.tokens.add(tokens[2])
+            self.items.append(Turn(self.place, client, frame_of("token"), keeps=tokens[2]))
+        elif tokens[:2] == ["start", "at"] and len(tokens) == 3 and re.fullmatch(NAME, tokens[2]):
+            if tokens[2] not in self.tokens:
+                raise Unfit(tokens[2], "a token that a line before this one names, by NAME: token as TOKEN", "NAME: start at TOKEN")
+            none = ",".join("0" * self.sites)
+            self.items.append(Turn(self.place, client, frame_of(f"start at {none}"), at=tokens[2]))
         else:
-            self.items.append(Turn(self.place, client, frame_of(words)))
+            self.items.append(Turn(self.place, client, frame_of(" ".join(self.without_list(tokens)) if len(tokens) == 4 else words)))
+
+    def without_list(self, tokens):
+        """The words of a request; of one for friends without the container of their lists, where it is told."""
+        if tokens[0] not in ("befriend", "unfriend"):
+            return tokens
+        if tokens[1] != str(self.friends):
+            there = f"{self.friends}, which line friends names"
+            raise Unfit(tokens[1], "no container: there is no line friends" if self.friends is None else there, form_of(tokens[0]))
+        return [tokens[0], *tokens[2:]]
 
     def take(self, line):
         words = code_of(line).strip()
@@ -441,7 +506,7 @@ class Script:
         return [bytearray(b"".join(frames)) for frames in sent]
 
     def has_names(self):
-        return any(isinstance(item, Named) or isinstance(item, Turn) and item.last for item in self.items)
+        return any(isinstance(item, Named) or isinstance(item, Turn) and (item.last or item.at) for item in self.items)
 
     def lay_out(self):
         """Makes the steps and the clients' bytes of the lines."""
@@ -461,7 +526,7 @@ class Script:
     def head(self):
         """What a scenario has beside its clients and its steps."""
         made = {"sites": self.sites, "f": self.tolerated, "containers": self.containers}
-        for key in "capacity", "areas", "room", "format", "link", "ticks", "threads":
+        for key in "friends", "capacity", "areas", "room", "format", "link", "ticks", "threads":
             if getattr(self, key) is not None:
                 made[key] = getattr(self, key)
         if self.arms:
@@ -504,6 +569,7 @@ FORMS = {
     "ticks N": Script.take_ticks,
     "threads N": Script.take_threads,
     "container N regular|set at SITE": Script.take_container,
+    "friends N": Script.take_friends,
     "client NAME at SITE": Script.take_client,
     "armed SITE call N choice N": Script.take_armed,
     "arm SITE call N choice N": Script.take_arm,
@@ -628,12 +694,22 @@ def read(text):
     return read_script(text).scenario()
 
 
+def named_turn(item):
+    """What a turn says by name, if it does."""
+    if item.last:
+        return "level last"
+    if item.keeps:
+        return f"token as {item.keeps}"
+    return f"start at {item.at}" if item.at else None
+
+
 def line_of(item, names):
     """The lines that say an item of a script, whose clients have these names."""
     if isinstance(item, Sent):
         return [f"{names[item.client]}: bytes {item.sent.hex()}"]
     if isinstance(item, Turn):
-        return [f"{names[item.client]}: level last"] if item.last else turn_lines(names[item.client], item.frame)
+        said = named_turn(item)
+        return [f"{names[item.client]}: {said}"] if said else turn_lines(names[item.client], item.frame)
     if isinstance(item, Step):
         return [words_of_step(*item.made)]
     here, there, kind, says, again = item.fields
@@ -656,7 +732,7 @@ def catalog_lines(made):
     lines += lines_of_keys(made, "ticks", "threads")
     for which, kind, site in made["containers"]:
         lines.append(f"container {which} {'set' if kind == 'cset' else kind} at {site}")
-    return lines
+    return lines + lines_of_keys(made, "friends")
 
 
 def lines_of_keys(made, *keys):

@@ -132,7 +132,8 @@ class Shell:
         if not before:
             return [*COMMANDS, *scripts.FORMS_OF, *(f"{name}:" for name in self.names())]
         if before[0].rstrip(":") in self.names():
-            return [*scripts.OPERATIONS, "bytes", "again", *self.objects()] if len(before) == 1 else self.objects()
+            said = [scripts.SAID.get(word, word) for word in scripts.OPERATIONS]
+            return [*said, "bytes", "again", *self.objects()] if len(before) == 1 else self.objects()
         parts = {part for form in scripts.FORMS_OF.get(before[0], ()) for part in form.parts if not part.isupper()}
         return sorted({one for part in parts for one in part.strip("[]").split("|")}) + list(scripts.PACKETS)
 

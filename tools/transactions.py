@@ -18,8 +18,15 @@ ANSWERS = {
     "commit": ("committed", "deciding", "aborted", "ended", "unsure"),
     "abort": ("aborted",),
     "level": ("level",),
+    "handover": ("committed", "unsure"),
+    "startat": ("started",),
+    "token": ("token",),
+    "befriend": ("done",),
+    "unfriend": ("done",),
     "bad": (),
 }
+# These are of no transaction of the client's, and end none.
+APART = ("handover", "token")
 ENDS = ("committed", "aborted", "ended", "unsure")
 WAS_LOST = 7
 
@@ -29,11 +36,19 @@ Session = namedtuple("Session", "name client updates")
 
 def word_of(frame):
     """The word of a call, `bad` for a bad frame."""
-    return (scripts.words_of(frame) or "bad").split(" ")[0]
+    return scripts.WORDS[frame[4]] if scripts.words_of(frame) else "bad"
+
+
+def updates_of(word, frame, friends=None):
+    """The updates that a call makes, as a record has them: of two friends each one's list is changed."""
+    if word in ("befriend", "unfriend"):
+        one, other = struct.unpack_from(">QQ", frame, 5)
+        kind = "setadd" if word == "befriend" else "setdel"
+        return [(kind, (friends, one), other), (kind, (friends, other), one)]
+    return [update_of(word, frame)]
 
 
 def update_of(word, frame):
-    """The update that a call makes, as a record has it."""
     oid = struct.unpack_from(">IQ", frame, 5)
     return word, oid, scripts.value_in(frame) if word == "write" else struct.unpack_from(">Q", frame, 17)[0]
 
@@ -45,8 +60,9 @@ def may_answer(frame, reply):
 class Sessions:
     """The transactions that clients have open, by their calls and the replies to them, and all that were started."""
 
-    def __init__(self):
-        self.open, self.started = {}, {}
+    def __init__(self, friends=None):
+        # The container of the friend lists; and the transactions.
+        self.friends, self.open, self.started = friends, {}, {}
 
     def take(self, client, frame, reply):
         """Takes a call in, and gives the name of the transaction that it is of, if it is of one."""
@@ -55,11 +71,21 @@ class Sessions:
             session = self.open[client] = self.started[reply.fields] = Session(reply.fields, client, [])
         elif word == "level":
             return struct.unpack_from(">BIQ", frame, 5)
+        elif word in APART:
+            return None
         elif reply.kind == "done" and session:
-            session.updates.append(update_of(word, frame))
+            session.updates.extend(updates_of(word, frame, self.friends))
         elif reply.kind in ENDS or reply.kind == "refused" and reply.fields[0] == WAS_LOST:
             self.open.pop(client, None)
         return session.name if session else None
+
+    def hand_over(self, client, frame, record):
+        """Takes a handover in, by its record, and gives the name of its transaction; None where it isn't one."""
+        transaction = record.transaction if record else None
+        if transaction is None or transaction.slow or transaction.updates != (("move", *struct.unpack_from(">IB", frame, 5)),):
+            return None
+        self.started[transaction.name] = Session(transaction.name, client, list(transaction.updates))
+        return transaction.name
 
     def has(self, client, transaction):
         """Whether a recorded transaction is the one that a client has open, with its updates."""

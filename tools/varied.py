@@ -35,9 +35,10 @@ class Played(names.Course):
             super().take(item)
             self.items.append(item)
         except scripts.Unfit:
-            # A `level last` of no transaction is asked all the same; a packet that isn't there is left out.
+            # A `level last` of no transaction is asked all the same, and so is a start at a token that nobody was given; a packet
+            # that isn't there is left out.
             if isinstance(item, scripts.Turn):
-                self.items.append(item._replace(last=False))
+                self.items.append(item._replace(last=False, at=None))
 
     def step(self, word, *fields):
         before = len(self.run.replies[fields[0]]) if word == "call" else 0

@@ -1,5 +1,7 @@
 """The words for what happened in a run, a line for each call, packet and step. Stands on docs/FORMATS.md and docs/SITE.md."""
 
+import struct
+
 import scripts
 import reports
 
@@ -17,6 +19,11 @@ REFUSALS = {
     13: "memory ran out",
     14: "the transaction is another site's",
     15: "no such transaction was started",
+    18: "it can't be handed to that site",
+    20: "the token is of another number of sites",
+    21: "the set is a friend list, which changes together with another one alone",
+    22: "the two are one person",
+    23: "there are no friend lists",
 }
 
 # What records and packets are, in a line each.
@@ -64,6 +71,8 @@ def many(count, what):
 
 def update(change):
     kind, oid, what = change
+    if kind == "move":
+        return f"handover {oid} to {what}"
     return f"{kind} {pair(oid)} " + (scripts.words_of_value(what) if kind == "write" else str(what))
 
 
@@ -88,6 +97,8 @@ def conflict(cause, *fields):
         return f"{pair(fields[0])} is locked by {name(fields[1])}"
     if cause == "later":
         return f"{pair(fields[0])} is locked by {name(fields[1])}, {WHY_LATER[fields[2]]}"
+    if cause == "moving":
+        return f"{pair(fields[0])} isn't at home there"
     return {"asked": "it was asked for", "over": "it is over", "unknown": "for a cause that isn't told"}[cause]
 
 
@@ -98,6 +109,12 @@ def refusal(why, behind):
         return f"a bad frame at {behind[0]}"
     if why == 10:
         return full(*behind)
+    if why == 16:
+        return f"the container is at site {behind[0]}"
+    if why == 17:
+        return f"{pair(behind[:2])} is locked by {name(behind[2:])}"
+    if why == 19:
+        return f"{behind[1]:,} of site {behind[0]} committed here, which is behind the token"
     return REFUSALS[why]
 
 
@@ -115,6 +132,8 @@ def reply(frame):
         return "{" + ", ".join(f"{number}: {count}" for number, count in fields) + "}"
     if kind == "committed":
         return f"committed {version(fields)}"
+    if kind == "token":
+        return f"token {','.join(map(str, fields))}"
     if kind == "aborted":
         return f"aborted: {conflict(*fields)}"
     if kind == "level":
@@ -193,6 +212,23 @@ def call(scenario, made):
     return f"{scenario.names[client]} {scripts.words_of(frame) or 'bytes ' + frame.hex()}"
 
 
+def answer_of(scenario, made, frame):
+    """The reply to a call. Where a site is behind a token it says which one, of whom, and what the token sees."""
+    told = reports.reply_of(frame)
+    if told.kind != "refused" or told.fields[0] != 19:
+        return reply(frame)
+    client, request = made
+    of, have = told.fields[1]
+    (wanted,) = struct.unpack_from(">Q", request, 6 + 8 * of)
+    return (f"refused: site {scenario.homes[client]} is behind: it has committed {have:,} of site {of}, and the token sees "
+            f"{wanted:,}")
+
+
+def handed(transaction):
+    """What a commit hands over, which counts at a site from then on."""
+    return "".join(f", container {container} is at site {to} from now on" for container, to in reports.moves_of(transaction))
+
+
 def taken(moment):
     """What came of a packet or an Advance that was taken."""
     wrote = moment.entry.wrote
@@ -203,7 +239,7 @@ def taken(moment):
         return ", ".join(told) or record(wrote, moment.site)
     site = moment.site if wrote.site is None else wrote.site
     if wrote.kind in ("Own", "Seen"):
-        return f"committed {version((site, wrote.number))}"
+        return f"committed {version((site, wrote.number))}{handed(moment.committed)}"
     if wrote.kind == "Got":
         return f"received {version((site, wrote.number))}"
     if wrote.kind == "Prepared":
@@ -273,6 +309,9 @@ def behind(moment):
             said.append(fault(moment))
         elif entry.wrote and entry.wrote.kind == "SlowBegin":
             said.append(f"the slow commit {entry.wrote.number} begins")
+        elif entry.event[2] == "handover" and entry.wrote:
+            ((container, to),) = reports.moves_of(entry.wrote.transaction)
+            said.append(f"site {moment.site} takes container {container} to be at site {to} from now on")
     if entry.kept:
         said.append(f"found {record(entry.kept, moment.site)}")
     if entry.dropped:
@@ -284,7 +323,7 @@ def moment_line(scenario, moment, whole=True):
     """The line of an entry."""
     word, *fields = moment.entry.event
     if word == "call":
-        came = f"{call(scenario, moment.call)} -> {reply(moment.entry.outcome[1])}"
+        came = f"{call(scenario, moment.call)} -> {answer_of(scenario, moment.call, moment.entry.outcome[1])}"
     elif word == "deliver":
         came = f"{route(moment.packet, whole)}: {outcome(moment, whole)}"
     else:
@@ -322,7 +361,7 @@ def lines(run, packets=False):
             put_out = sends(step.moment.sends) if packets and step.moment.entry.event[0] != "tick" else ""
             yield moment_line(run.scenario, step.moment) + (f" | {put_out}" if put_out else "")
         elif step.reply:
-            yield f"{call(run.scenario, step.call)} -> {reply(step.reply)}"
+            yield f"{call(run.scenario, step.call)} -> {answer_of(run.scenario, step.call, step.reply)}"
 
 
 def left_over(run):

@@ -46,7 +46,7 @@ WRONG = [
     ("container 2 list at 0", 4, '"list"', "regular|set", "container N regular|set at SITE"),
     ("client ann at 0", 4, '"ann"', "a client's name that is new", "client NAME at SITE"),
     ("sites 1 tolerated 0", 4, '"sites"', "the sites once", "sites N tolerated F"),
-    ("hello", 4, '"hello"', "one of sites, capacity, areas, room, format, link, ticks, threads, container, client", None),
+    ("hello", 4, '"hello"', "one of sites, capacity, areas, room, format, link, ticks, threads, container, friends, client", None),
     ("ann start", 4, '"ann"', "a colon behind the client: ann: OPERATION ..", None),
     ("settle all", 4, '"all"', "[SITE]", "settle [SITE]"),
     # Limits of the program.

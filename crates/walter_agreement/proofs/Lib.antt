@@ -4,6 +4,7 @@ pub mod Numbers
 pub mod CausalLogs
 pub mod Locks
 pub mod LocksKept
+pub mod Moved
 pub mod Issued
 pub mod Tidy
 pub mod FastNames

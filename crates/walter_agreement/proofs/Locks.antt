@@ -10,49 +10,58 @@ use Rattle.walter_base.specs.Values.{write_set}
 use Rattle.walter_rules.specs.declared.held.Held.{Held}
 use Rattle.walter_rules.specs.Log.{sees}
 use Rattle.walter_rules.specs.Slow.{Slow, Unused, Undecided, Decided, Part, Free, Locked, Over, begun}
-use Rattle.walter_agreement.specs.Locking.{AreLocal, IsUnmodified, IsUnlocked, AgreesAt}
+use Rattle.walter_agreement.specs.Locking.{AreLocal, IsUnmodified, IsUnlocked}
 use Rattle.walter_agreement.proofs.Cases.{site_cases, low_or, zero_or, HasEnded, DoesEnd, DoesDecide, not_unused, ended_not_unused, ended_not_open, decided_not_open, dropped_not_open, same_open, locked_not_over, locked_not_free, over_not_free}
 
--- the lock is that of a begun slow commit
-abbrev pub IsTrueLock : (ObjId → SiteId) → SiteId → Slow → Tid → List ObjId → Type 0
-IsTrueLock preferred p g t objs = (x : Tx) × (begun g ≡ Some x) × (t ≡ x.tid) × AgreesAt preferred p x objs
+-- the lock is that of a begun slow commit, on what it wants there
+abbrev pub IsTrueLock : List ObjId → Slow → Tid → List ObjId → Type 0
+IsTrueLock wanted g t objs = (x : Tx) × (begun g ≡ Some x) × (t ≡ x.tid) × (objs ≡ wanted)
 
 -- the part is a lock that has the object
 abbrev pub IsHeld : Part → ObjId → Type 0
 IsHeld part oid = (t : Tid) × (objs : List ObjId) × (part ≡ Locked t objs) × Contains objs oid
 
--- of site k's own commits `owns k`, site p's commits in order `known p`, how many of site k's commits are committed
--- at p `counts p k`, site j's slow commits `slows j`, and what site p has of slow commit n of j `locks p j n`
-pub record AreLocked (preferred : ObjId → SiteId) (owns known : SiteId → List Held) (counts : SiteId → SiteId → ℕ)
-    (slows : SiteId → ℕ → Slow) (locks : SiteId → SiteId → ℕ → Part) : Type 0 where
-  -- each lock is that of a begun slow commit, on what it writes there
+-- some site has it locked for slow commit n of i
+pub record IsLockedFor (locks : SiteId → SiteId → ℕ → Part) (i : SiteId) (n : ℕ) (oid : ObjId) : Type 0 where
+  pub site : SiteId
+  pub lock : IsHeld (locks site i n) oid
+
+-- where site p has container c preferred `homes p c`, of site k's own commits `owns k`, site p's commits in order
+-- `known p`, how many of site k's commits are committed at p `counts p k`, site j's slow commits `slows j`, what slow
+-- commit n of j wants at site p `wants j n p`, and what site p has of it `locks p j n`
+pub record AreLocked (homes : SiteId → ℕ → SiteId) (owns known : SiteId → List Held) (counts : SiteId → SiteId → ℕ)
+    (slows : SiteId → ℕ → Slow)
+    (wants : SiteId → ℕ → SiteId → List ObjId) (locks : SiteId → SiteId → ℕ → Part) : Type 0 where
+  -- each lock is that of a begun slow commit, on what it wants there
   pub held : (p j : SiteId) (n : ℕ) (t : Tid) (objs : List ObjId) → locks p j n ≡ Locked t objs
-      → IsTrueLock preferred p (slows j n) t objs
+      → IsTrueLock (wants j n p) (slows j n) t objs
   -- what is over at a site is over at its coordinator
   pub over : (p j : SiteId) (n : ℕ) → locks p j n ≡ Over → HasEnded (slows j n)
   -- one lock on an object
   pub single : (p j k : SiteId) (n m : ℕ) (t u : Tid) (ws bs : List ObjId) (oid : ObjId) → locks p j n ≡ Locked t ws
       → locks p k m ≡ Locked u bs
-      → Contains ws oid → Contains bs oid → preferred oid ≡ p → (j ≡ k) × (n ≡ m)
+      → Contains ws oid → Contains bs oid → (j ≡ k) × (n ≡ m)
+  -- what is locked is preferred there
+  pub home : (p j : SiteId) (n : ℕ) (t : Tid) (objs : List ObjId) (oid : ObjId) → locks p j n ≡ Locked t objs
+      → Contains objs oid → homes p oid.container ≡ p
   -- an undecided one sees each version of what it has locked
   pub clean : (p j : SiteId) (n : ℕ) (t : Tid) (objs : List ObjId) (x : Tx) (asked : List SiteId)
       → locks p j n ≡ Locked t objs
-      → slows j n ≡ Undecided x asked → IsUnmodified preferred p x.start objs (known p)
-  -- what is committed and doesn't stand at p has its lock there
+      → slows j n ≡ Undecided x asked → IsUnmodified x.start objs (known p)
+  -- what is committed, is preferred at p and doesn't stand there has its lock there
   pub waits : (p k : SiteId) (q : ℕ) (r : Held) (oid : ObjId) → slice_get (owns k) q ≡ Some r → counts p k ≤ q
-      → Contains (write_set r.tx.updates) oid → preferred oid ≡ p → IsHeld (locks p k r.tx.slow) oid
-  -- a fast commit writes at home alone
-  pub fast : (k : SiteId) (q : ℕ) (r : Held) → slice_get (owns k) q ≡ Some r → r.tx.slow ≡ 0
-      → AreLocal preferred k r.tx.updates
+      → Contains (write_set r.tx.updates) oid → homes p oid.container ≡ p → IsHeld (locks p k r.tx.slow) oid
+  -- 0 is the number of no slow commit
+  pub none : (k : SiteId) → slows k 0 ≡ Unused
   -- a slow one was decided, once
   pub slow : (k : SiteId) (q : ℕ) (r : Held) → slice_get (owns k) q ≡ Some r → r.tx.slow ≢ 0
       → slows k r.tx.slow ≡ Decided r.tx
   pub once : (k : SiteId) (q p : ℕ) (r s : Held) → slice_get (owns k) q ≡ Some r → slice_get (owns k) p ≡ Some s
       → r.tx.slow ≢ 0
       → r.tx.slow ≡ s.tx.slow → q ≡ p
-  -- an undecided one has what it writes at home locked there
+  -- an undecided one has what it wants at home locked there
   pub local : (p : SiteId) (n : ℕ) (x : Tx) (asked : List SiteId) (oid : ObjId) → slows p n ≡ Undecided x asked
-      → Contains (write_set x.updates) oid → preferred oid ≡ p → IsHeld (locks p p n) oid
+      → Contains (wants p n p) oid → IsHeld (locks p p n) oid
   -- a slow one that stands at another site is over there
   pub gone : (p k : SiteId) (q : ℕ) (r : Held) → p ≢ k → slice_get (owns k) q ≡ Some r → q < counts p k → r.tx.slow ≢ 0
       → locks p k r.tx.slow ≡ Over
@@ -64,30 +73,33 @@ pub record IsLoosed (p j : SiteId) (part : Part) (g : Slow) : Type 0 where
   pub home : p ≡ j → (x : Tx) (asked : List SiteId) → g ≢ Undecided x asked
 
 -- at first nothing is committed, begun or locked
-pub none_locked : (preferred : ObjId → SiteId) (owns known : SiteId → List Held) (counts : SiteId → SiteId → ℕ)
-    (slows : SiteId → ℕ → Slow) (locks : SiteId → SiteId → ℕ → Part)
+pub none_locked : (homes : SiteId → ℕ → SiteId) (owns known : SiteId → List Held) (counts : SiteId → SiteId → ℕ)
+    (slows : SiteId → ℕ → Slow)
+    (wants : SiteId → ℕ → SiteId → List ObjId) (locks : SiteId → SiteId → ℕ → Part)
     → ((k : SiteId) → owns k ≡ []) → ((j : SiteId) (n : ℕ) → slows j n ≡ Unused)
     → ((p j : SiteId) (n : ℕ) → locks p j n ≡ Free)
-    → AreLocked preferred owns known counts slows locks
-none_locked preferred owns known counts slows locks none unused free =
+    → AreLocked homes owns known counts slows wants locks
+none_locked homes owns known counts slows wants locks none unused free =
     let no_own : (k : SiteId) (q : ℕ) (r : Held) → slice_get (owns k) q ≡ Some r
     → ⊥ = λ k q r here. let e = sym (ap (λ z. slice_get z q) (none k)) ∙ here in cc in
     record {
       held = λ p j n t objs h. absurd (locked_not_free (locks p j n) t objs h (free p j n));
       over = λ p j n h. absurd (over_not_free (locks p j n) h (free p j n));
-      single = λ p j k n m t u ws bs oid a b ca cb pr. absurd (locked_not_free (locks p j n) t ws a (free p j n));
+      single = λ p j k n m t u ws bs oid a b ca cb. absurd (locked_not_free (locks p j n) t ws a (free p j n));
+      home = λ p j n t objs oid h. absurd (locked_not_free (locks p j n) t objs h (free p j n));
       clean = λ p j n t objs x asked h o. absurd (locked_not_free (locks p j n) t objs h (free p j n));
       waits = λ p k q r oid here low w pr. absurd (no_own k q r here);
-      fast = λ k q r here. absurd (no_own k q r here);
+      none = λ k. unused k 0;
       slow = λ k q r here. absurd (no_own k q r here);
       once = λ k q p r s here. absurd (no_own k q r here);
       local = λ p n x asked oid o. absurd (not_unused (slows p n) x (ap begun o) (unused p n));
       gone = λ p k q r apart here. absurd (no_own k q r here);
     }
 
-module _ (preferred : ObjId → SiteId) (owns known : SiteId → List Held) (counts : SiteId → SiteId → ℕ)
-    (slows : SiteId → ℕ → Slow) (locks : SiteId → SiteId → ℕ → Part)
-    (L : AreLocked preferred owns known counts slows locks) where
+module _ (homes : SiteId → ℕ → SiteId) (owns known : SiteId → List Held) (counts : SiteId → SiteId → ℕ)
+    (slows : SiteId → ℕ → Slow)
+    (wants : SiteId → ℕ → SiteId → List ObjId) (locks : SiteId → SiteId → ℕ → Part)
+    (L : AreLocked homes owns known counts slows wants locks) where
   -- of a slow commit that isn't begun a site has nothing
   pub unused_free : (p j : SiteId) (n : ℕ) → slows j n ≡ Unused → locks p j n ≡ Free
   unused_free p j n unused = elim (locks p j n) as (λ g. locks p j n ≡ g → g ≡ Free) [
@@ -96,8 +108,15 @@ module _ (preferred : ObjId → SiteId) (owns known : SiteId → List Held) (cou
     | Over ↦ λ e. absurd (ended_not_unused (slows j n) (L.over p j n e) unused)
   ] refl
 
-  -- slow commits end, locks go
-  pub goes : (counts2 : SiteId → SiteId → ℕ) (slows2 : SiteId → ℕ → Slow) (locks2 : SiteId → SiteId → ℕ → Part)
+  -- what is locked has a number
+  locked_some : (p k : SiteId) (n : ℕ) (oid : ObjId) → IsHeld (locks p k n) oid → n ≢ 0
+  locked_some p k n oid h zero_is =
+      let o = L.held p k n h.0 h.1 h.2 in
+      not_unused (slows k n) o.0 o.1 (subst (λ m. slows k m ≡ Unused) (sym zero_is) (L.none k))
+
+  -- slow commits end, locks go; a site at which a container comes to be preferred has all that was written there
+  pub goes : (homes2 : SiteId → ℕ → SiteId) (counts2 : SiteId → SiteId → ℕ) (slows2 : SiteId → ℕ → Slow)
+      (locks2 : SiteId → SiteId → ℕ → Part)
       → ((p k : SiteId) → counts p k ≤ counts2 p k) → ((k : SiteId) → counts2 k k ≡ length (owns k))
       → ((j : SiteId) (n : ℕ) → DoesEnd (slows j n) (slows2 j n))
       → ((p j : SiteId) (n : ℕ) → (locks2 p j n ≡ locks p j n) ⊎ (IsLoosed p j (locks2 p j n) (slows2 j n)
@@ -106,8 +125,12 @@ module _ (preferred : ObjId → SiteId) (owns known : SiteId → List Held) (cou
       → ((p k : SiteId) (q : ℕ) (r : Held) → p ≢ k → slice_get (owns k) q ≡ Some r → counts p k ≤ q → q < counts2 p k
       → r.tx.slow ≢ 0
       → locks2 p k r.tx.slow ≡ Over)
-      → AreLocked preferred owns known counts2 slows2 locks2
-  goes counts2 slows2 locks2 rise full ends go lasts risen =
+      → ((p : SiteId) (c : ℕ) → homes p c ≡ p → homes2 p c ≡ p)
+      → ((p : SiteId) (c : ℕ) → homes2 p c ≡ p → (homes p c ≡ p)
+      ⊎ ((k : SiteId) (q : ℕ) (r : Held) (oid : ObjId) → slice_get (owns k) q ≡ Some r
+      → Contains (write_set r.tx.updates) oid → oid.container ≡ c → q < counts2 p k))
+      → AreLocked homes2 owns known counts2 slows2 wants locks2
+  goes homes2 counts2 slows2 locks2 rise full ends go lasts risen stay fresh =
       let stays : (j : SiteId) (n : ℕ) (x : Tx) → begun (slows j n) ≡ Some x
       → begun (slows2 j n) ≡ Some x = λ j n x h. elim (ends j n) [
         | inl same ↦ ap begun same ∙ h
@@ -126,6 +149,7 @@ module _ (preferred : ObjId → SiteId) (owns known : SiteId → List Held) (cou
       ] in
       record {
         held = λ p j n t objs h. let o = L.held p j n t objs (old p j n t objs h) in (o.0, stays j n o.0 o.1, o.2, o.3);
+        home = λ p j n t objs oid h c. stay p oid.container (L.home p j n t objs oid (old p j n t objs h) c);
         over = λ p j n h. elim (go p j n) [
           | inl same ↦ let o = L.over p j n (sym same ∙ h) in elim (ends j n) [
             | inl keeps ↦ subst (λ g. HasEnded g) (sym keeps) o
@@ -133,28 +157,33 @@ module _ (preferred : ObjId → SiteId) (owns known : SiteId → List Held) (cou
           ]
           | inr loosed ↦ loosed.0.over h
         ];
-        single = λ p j k n m t u ws bs oid a b ca cb pr. L.single p j k n m t u ws bs oid (old p j n t ws a)
-            (old p k m u bs b) ca cb pr;
+        single = λ p j k n m t u ws bs oid a b ca cb. L.single p j k n m t u ws bs oid (old p j n t ws a)
+            (old p k m u bs b) ca cb;
         clean = λ p j n t objs x asked h o. L.clean p j n t objs x asked (old p j n t objs h) (open_ j n x asked o);
-        waits = λ p k q r oid here low w pr.
-            let o = L.waits p k q r oid here (let l = rise p k in omega (arith, l, low)) w pr in
-            let at_home : p ≡ k → ⊥ = λ e. let f : counts2 p k ≡ length (owns k) = ap (λ a. counts2 a k) e ∙ full k in
-            let i = slice_get_within (owns k) q r here in omega (arith, i, f, low) in
-            elim (go p k r.tx.slow) [
-              | inl same ↦ (o.0, o.1, same ∙ o.2, o.3)
-              | inr loosed ↦ elim (zero_or r.tx.slow) [
-                | inl z ↦ absurd (at_home (sym pr ∙ L.fast k q r here z oid w))
-                | inr some ↦ let l = loosed.1 at_home q r here some refl in absurd (omega (arith, l, low))
+        waits = λ p k q r oid here low w pr. elim (fresh p oid.container pr) [
+          | inr seen ↦ absurd (let l = seen k q r oid here w refl in omega (arith, l, low))
+          | inl was ↦
+              let o = L.waits p k q r oid here (let l = rise p k in omega (arith, l, low)) w was in
+              let at_home : p ≡ k → ⊥ = λ e. let f : counts2 p k ≡ length (owns k) = ap (λ a. counts2 a k) e ∙ full k in
+              let i = slice_get_within (owns k) q r here in omega (arith, i, f, low) in
+              elim (go p k r.tx.slow) [
+                | inl same ↦ (o.0, o.1, same ∙ o.2, o.3)
+                | inr loosed ↦
+                    let l = loosed.1 at_home q r here (locked_some p k r.tx.slow oid o) refl in
+                    absurd (omega (arith, l, low))
               ]
-            ];
-        fast = L.fast;
+        ];
+        none = λ k. elim (ends k 0) [
+          | inl same ↦ same ∙ L.none k
+          | inr end ↦ absurd (not_unused (slows k 0) end.0 (ap begun end.2) (L.none k))
+        ];
         slow = λ k q r here s. elim (ends k r.tx.slow) [
           | inl same ↦ same ∙ L.slow k q r here s
           | inr end ↦ absurd (decided_not_open (slows k r.tx.slow) r.tx end.0 end.1 (L.slow k q r here s) end.2)
         ];
         once = L.once;
-        local = λ p n x asked oid o w pr.
-            let h = L.local p n x asked oid (open_ p n x asked o) w pr in
+        local = λ p n x asked oid o w.
+            let h = L.local p n x asked oid (open_ p n x asked o) w in
             elim (go p p n) [
               | inl same ↦ (h.0, h.1, same ∙ h.2, h.3)
               | inr loosed ↦ absurd (loosed.0.home refl x asked o)
@@ -166,17 +195,20 @@ module _ (preferred : ObjId → SiteId) (owns known : SiteId → List Held) (cou
       }
 
   -- a slow commit begins at c with its lock there, or its lock comes to i
-  pub comes : (slows2 : SiteId → ℕ → Slow) (locks2 : SiteId → SiteId → ℕ → Part) (i c : SiteId) (m : ℕ)
+  pub comes : (slows2 : SiteId → ℕ → Slow) (wants2 : SiteId → ℕ → SiteId → List ObjId)
+      (locks2 : SiteId → SiteId → ℕ → Part) (i c : SiteId) (m : ℕ)
       (objs : List ObjId) (x : Tx)
       → ((j : SiteId) (n : ℕ) → (slows2 j n ≡ slows j n)
       ⊎ ((asked : List SiteId) × (slows j n ≡ Unused) × (slows2 j n ≡ Undecided x asked) × (j ≡ i)
       × (locks2 j j n ≡ Locked x.tid objs)))
       → ((p j : SiteId) (n : ℕ) → (locks2 p j n ≡ locks p j n)
       ⊎ ((p ≡ i) × (j ≡ c) × (n ≡ m) × (locks2 p j n ≡ Locked x.tid objs)))
-      → locks i c m ≡ Free → begun (slows2 c m) ≡ Some x → AgreesAt preferred i x objs
-      → IsUnmodified preferred i x.start objs (known i) → IsUnlocked preferred i (locks i) objs
-      → AreLocked preferred owns known counts slows2 locks2
-  comes slows2 locks2 i c m objs x begins come free is agrees unmodified unlocked =
+      → locks i c m ≡ Free → begun (slows2 c m) ≡ Some x → m ≢ 0
+      → ((j : SiteId) (n : ℕ) → slows j n ≢ Unused → wants2 j n ≡ wants j n) → objs ≡ wants2 c m i
+      → ((oid : ObjId) → Contains objs oid → homes i oid.container ≡ i)
+      → IsUnmodified x.start objs (known i) → IsUnlocked (locks i) objs
+      → AreLocked homes owns known counts slows2 wants2 locks2
+  comes slows2 wants2 locks2 i c m objs x begins come free is some wanting wanted at_home unmodified unlocked =
       let stays : (j : SiteId) (n : ℕ) (y : Tx) → begun (slows j n) ≡ Some y
       → slows2 j n ≡ slows j n = λ j n y h. elim (begins j n) [
         | inl same ↦ same
@@ -189,7 +221,10 @@ module _ (preferred : ObjId → SiteId) (owns known : SiteId → List Held) (cou
       (subst (λ z. locks i z n ≡ Free) (sym ej) (subst (λ z. locks i c z ≡ Free) (sym en) free)) in
       record {
         held = λ p j n t os h. elim (come p j n) [
-          | inl same ↦ let o = L.held p j n t os (sym same ∙ h) in (o.0, ap begun (stays j n o.0 o.1) ∙ o.1, o.2, o.3)
+          | inl same ↦
+              let o = L.held p j n t os (sym same ∙ h) in
+              let keeps : wants2 j n ≡ wants j n = wanting j n (λ u. not_unused (slows j n) o.0 o.1 u) in
+              (o.0, ap begun (stays j n o.0 o.1) ∙ o.1, o.2, o.3 ∙ ap (λ f. f p) (sym keeps))
           | inr new ↦
               let f : Locked x.tid objs ≡ Locked t os = sym new.3 ∙ h in
               let ft : x.tid ≡ t = cc in
@@ -197,9 +232,17 @@ module _ (preferred : ObjId → SiteId) (owns known : SiteId → List Held) (cou
                 x,
                 is_at j n new.1 new.2,
                 sym ft,
-                subst (λ z. AgreesAt preferred p x z) fo
-                    (subst (λ k. AgreesAt preferred k x objs) (sym new.0) agrees),
+                sym fo ∙ (wanted ∙ (ap (λ z. wants2 c z i) (sym new.2) ∙ (ap (λ z. wants2 z n i) (sym new.1)
+                    ∙ ap (λ z. wants2 j n z) (sym new.0)))),
               )
+        ];
+        home = λ p j n t os oid h w. elim (come p j n) [
+          | inl same ↦ L.home p j n t os oid (sym same ∙ h) w
+          | inr new ↦
+              let f : Locked x.tid objs ≡ Locked t os = sym new.3 ∙ h in
+              let fo : objs ≡ os = cc in
+              subst (λ z. homes z oid.container ≡ z) (sym new.0)
+              (at_home oid (subst (λ z. Contains z oid) (sym fo) w))
         ];
         over = λ p j n h. elim (come p j n) [
           | inl same ↦ let o = L.over p j n (sym same ∙ h) in elim (begins j n) [
@@ -208,21 +251,21 @@ module _ (preferred : ObjId → SiteId) (owns known : SiteId → List Held) (cou
           ]
           | inr new ↦ absurd (locked_not_over (locks2 p j n) x.tid objs new.3 h)
         ];
-        single = λ p j k n l t u ws bs oid a b ca cb pr. elim (come p j n) [
+        single = λ p j k n l t u ws bs oid a b ca cb. elim (come p j n) [
           | inl sa ↦ elim (come p k l) [
-            | inl sb ↦ L.single p j k n l t u ws bs oid (sym sa ∙ a) (sym sb ∙ b) ca cb pr
+            | inl sb ↦ L.single p j k n l t u ws bs oid (sym sa ∙ a) (sym sb ∙ b) ca cb
             | inr nb ↦
                 let f : Locked x.tid objs ≡ Locked u bs = sym nb.3 ∙ b in
                 let fo : objs ≡ bs = cc in
                 absurd (unlocked j n t ws oid (subst (λ z. locks z j n ≡ Locked t ws) nb.0 (sym sa ∙ a)) ca
-                (subst (λ z. Contains z oid) (sym fo) cb) (pr ∙ nb.0))
+                (subst (λ z. Contains z oid) (sym fo) cb))
           ]
           | inr na ↦ elim (come p k l) [
             | inl sb ↦
                 let f : Locked x.tid objs ≡ Locked t ws = sym na.3 ∙ a in
                 let fo : objs ≡ ws = cc in
                 absurd (unlocked k l u bs oid (subst (λ z. locks z k l ≡ Locked u bs) na.0 (sym sb ∙ b)) cb
-                (subst (λ z. Contains z oid) (sym fo) ca) (pr ∙ na.0))
+                (subst (λ z. Contains z oid) (sym fo) ca))
             | inr nb ↦ (na.1 ∙ sym nb.1, na.2 ∙ sym nb.2)
           ]
         ];
@@ -235,9 +278,9 @@ module _ (preferred : ObjId → SiteId) (owns known : SiteId → List Held) (cou
               let f : Locked x.tid objs ≡ Locked t os = sym new.3 ∙ h in
               let fo : objs ≡ os = cc in
               let e : x ≡ y = same_open (slows2 j n) x y asked (is_at j n new.1 new.2) o in
-              subst (λ (z : Tx). IsUnmodified preferred p z.start os (known p)) e
-              (subst (λ z. IsUnmodified preferred p x.start z (known p)) fo
-              (subst (λ k. IsUnmodified preferred k x.start objs (known k)) (sym new.0) unmodified))
+              subst (λ (z : Tx). IsUnmodified z.start os (known p)) e
+              (subst (λ z. IsUnmodified x.start z (known p)) fo
+              (subst (λ k. IsUnmodified x.start objs (known k)) (sym new.0) unmodified))
         ];
         waits = λ p k q r oid here low w pr.
             let o = L.waits p k q r oid here low w pr in
@@ -246,27 +289,39 @@ module _ (preferred : ObjId → SiteId) (owns known : SiteId → List Held) (cou
               | inr new ↦ absurd (locked_not_free (locks p k r.tx.slow) o.0 o.1 o.2
                   (free_at p k r.tx.slow new.0 new.1 new.2))
             ];
-        fast = L.fast;
+        none = λ k. elim (begins k 0) [
+          | inl same ↦ same ∙ L.none k
+          | inr new ↦ elim (come k k 0) [
+            | inl same ↦ absurd (locked_not_free (locks k k 0) x.tid objs (sym same ∙ new.4) (unused_free k k 0 new.1))
+            | inr here ↦ absurd (some (sym here.2))
+          ]
+        ];
         slow = λ k q r here s. elim (begins k r.tx.slow) [
           | inl same ↦ same ∙ L.slow k q r here s
           | inr new ↦ absurd (not_unused (slows k r.tx.slow) r.tx (ap begun (L.slow k q r here s)) new.1)
         ];
         once = L.once;
-        local = λ p n y asked oid o w pr. elim (begins p n) [
+        local = λ p n y asked oid o w. elim (begins p n) [
           | inl same ↦
-              let h = L.local p n y asked oid (sym same ∙ o) w pr in
+              let was : slows p n ≡ Undecided y asked = sym same ∙ o in
+              let keeps : wants2 p n ≡ wants p n = wanting p n (λ u. not_unused (slows p n) y (ap begun was) u) in
+              let h = L.local p n y asked oid was (subst (λ f. Contains (f p) oid) keeps w) in
               elim (come p p n) [
                 | inl keeps ↦ (h.0, h.1, keeps ∙ h.2, h.3)
                 | inr new ↦ absurd (locked_not_free (locks p p n) h.0 h.1 h.2 (free_at p p n new.0 new.1 new.2))
               ]
           | inr new ↦
-              let e : x ≡ y = same_open (slows2 p n) x y asked (ap begun new.2) o in (
-                x.tid,
-                objs,
-                new.4,
-                (agrees oid (pr ∙ new.3)).1
-                    (subst (λ (z : Tx). Contains (write_set z.updates) oid) (sym e) w),
-              )
+              elim (come p p n) [
+                | inl same ↦ absurd (locked_not_free (locks p p n) x.tid objs (sym same ∙ new.4)
+                    (unused_free p p n new.1))
+                | inr here ↦ (
+                  x.tid,
+                  objs,
+                  new.4,
+                  subst (λ z. Contains z oid) (ap (λ z. wants2 p n z) here.0 ∙ (ap (λ z. wants2 z n i) here.1
+                      ∙ (ap (λ z. wants2 c z i) here.2 ∙ sym wanted))) w,
+                )
+              ]
         ];
         gone = λ p k q r apart here low s.
             let o = L.gone p k q r apart here low s in
@@ -277,7 +332,8 @@ module _ (preferred : ObjId → SiteId) (owns known : SiteId → List Held) (cou
       }
 
   -- a transaction commits at i, fast or by decision
-  pub owned : (owns2 known2 : SiteId → List Held) (counts2 : SiteId → SiteId → ℕ) (slows2 : SiteId → ℕ → Slow)
+  pub owned : (homes2 : SiteId → ℕ → SiteId) (owns2 known2 : SiteId → List Held) (counts2 : SiteId → SiteId → ℕ)
+      (slows2 : SiteId → ℕ → Slow)
       (locks2 : SiteId → SiteId → ℕ → Part) (i : SiteId) (r : Held)
       → ((k : SiteId) (q : ℕ) (z : Held) → slice_get (owns2 k) q ≡ Some z → (slice_get (owns k) q ≡ Some z)
       ⊎ ((k ≡ i) × (q ≡ length (owns k)) × (r ≡ z)))
@@ -289,14 +345,17 @@ module _ (preferred : ObjId → SiteId) (owns known : SiteId → List Held) (cou
       → ((p j : SiteId) (n : ℕ) → (locks2 p j n ≡ locks p j n) ⊎ ((p ≡ j) × IsLoosed p j (locks2 p j n) (slows2 j n)))
       → ((j : SiteId) (n : ℕ) (t : Tid) (objs : List ObjId) (oid : ObjId) → locks i j n ≡ Locked t objs
       → Contains objs oid
-      → Contains (write_set r.tx.updates) oid → preferred oid ≡ i → (x : Tx) (asked : List SiteId)
+      → Contains (write_set r.tx.updates) oid → (x : Tx) (asked : List SiteId)
       → slows2 j n ≢ Undecided x asked)
-      → ((p : SiteId) (oid : ObjId) → Contains (write_set r.tx.updates) oid → preferred oid ≡ p → p ≢ i
+      → ((p : SiteId) (oid : ObjId) → Contains (write_set r.tx.updates) oid → homes2 p oid.container ≡ p → p ≢ i
       → IsHeld (locks2 p i r.tx.slow) oid)
-      → (r.tx.slow ≡ 0 → AreLocal preferred i r.tx.updates) → (r.tx.slow ≢ 0 → slows2 i r.tx.slow ≡ Decided r.tx)
+      → (r.tx.slow ≢ 0 → slows2 i r.tx.slow ≡ Decided r.tx)
       → ((q : ℕ) (z : Held) → slice_get (owns i) q ≡ Some z → r.tx.slow ≢ 0 → z.tx.slow ≢ r.tx.slow)
-      → AreLocked preferred owns2 known2 counts2 slows2 locks2
-  owned owns2 known2 counts2 slows2 locks2 i r own know rise full still decides go free waits_new fast_new slow_new once_new =
+      → ((p j : SiteId) (n : ℕ) (t : Tid) (objs : List ObjId) (oid : ObjId) → locks p j n ≡ Locked t objs
+      → Contains objs oid → homes2 p oid.container ≡ p)
+      → ((p : SiteId) (c : ℕ) → homes2 p c ≡ p → homes p c ≡ p)
+      → AreLocked homes2 owns2 known2 counts2 slows2 wants locks2
+  owned homes2 owns2 known2 counts2 slows2 locks2 i r own know rise full still decides go free waits_new slow_new once_new stay was_home =
       let old : (p j : SiteId) (n : ℕ) (t : Tid) (objs : List ObjId) → locks2 p j n ≡ Locked t objs
       → locks p j n ≡ Locked t objs = λ p j n t objs h. elim (go p j n) [
         | inl same ↦ sym same ∙ h
@@ -327,17 +386,19 @@ module _ (preferred : ObjId → SiteId) (owns known : SiteId → List Held) (cou
           ]
           | inr loosed ↦ loosed.1.over h
         ];
-        single = λ p j k n m t u ws bs oid a b ca cb pr. L.single p j k n m t u ws bs oid (old p j n t ws a)
-            (old p k m u bs b) ca cb pr;
-        clean = λ p j n t objs x asked h o z q oid here w c pr. elim (know p q z here) [
-          | inl was ↦ L.clean p j n t objs x asked (old p j n t objs h) (open_ j n x asked o) z q oid was w c pr
+        single = λ p j k n m t u ws bs oid a b ca cb. L.single p j k n m t u ws bs oid (old p j n t ws a)
+            (old p k m u bs b) ca cb;
+        home = λ p j n t objs oid h c. stay p j n t objs oid (old p j n t objs h) c;
+        clean = λ p j n t objs x asked h o z q oid here w c. elim (know p q z here) [
+          | inl was ↦ L.clean p j n t objs x asked (old p j n t objs h) (open_ j n x asked o) z q oid was w c
           | inr new ↦ absurd (free j n t objs oid
               (subst (λ k. locks k j n ≡ Locked t objs) new.0 (old p j n t objs h)) c
-              (subst (λ (y : Held). Contains (write_set y.tx.updates) oid) (sym new.1) w) (pr ∙ new.0) x asked o)
+              (subst (λ (y : Held). Contains (write_set y.tx.updates) oid) (sym new.1) w) x asked o)
         ];
         waits = λ p k q z oid here low w pr. elim (own k q z here) [
           | inl was ↦
-              let o = L.waits p k q z oid was (let l = rise p k in omega (arith, l, low)) w pr in
+              let o = L.waits p k q z oid was (let l = rise p k in omega (arith, l, low)) w
+              (was_home p oid.container pr) in
               elim (go p k z.tx.slow) [
                 | inl same ↦ (o.0, o.1, same ∙ o.2, o.3)
                 | inr loosed ↦ absurd (own_site p k q z loosed.0 here low)
@@ -350,11 +411,9 @@ module _ (preferred : ObjId → SiteId) (owns known : SiteId → List Held) (cou
                 (sym new.2) w) pr away.1))
           ]
         ];
-        fast = λ k q z here s. elim (own k q z here) [
-          | inl was ↦ L.fast k q z was s
-          | inr new ↦ subst (λ (y : Held). AreLocal preferred k y.tx.updates) new.2
-              (subst (λ a. AreLocal preferred a r.tx.updates) (sym new.0)
-              (fast_new (ap (λ (y : Held). y.tx.slow) new.2 ∙ s)))
+        none = λ k. elim (decides k 0) [
+          | inl same ↦ same ∙ L.none k
+          | inr end ↦ absurd (not_unused (slows k 0) end.0 (ap begun end.2) (L.none k))
         ];
         slow = λ k q z here s. elim (own k q z here) [
           | inl was ↦ elim (decides k z.tx.slow) [
@@ -380,8 +439,8 @@ module _ (preferred : ObjId → SiteId) (owns known : SiteId → List Held) (cou
             | inr nb ↦ na.1 ∙ sym nb.1
           ]
         ];
-        local = λ p n x asked oid o w pr.
-            let h = L.local p n x asked oid (open_ p n x asked o) w pr in
+        local = λ p n x asked oid o w.
+            let h = L.local p n x asked oid (open_ p n x asked o) w in
             elim (go p p n) [
               | inl same ↦ (h.0, h.1, same ∙ h.2, h.3)
               | inr loosed ↦ absurd (loosed.1.home refl x asked o)
@@ -404,30 +463,27 @@ module _ (preferred : ObjId → SiteId) (owns known : SiteId → List Held) (cou
       → ((p : SiteId) (q : ℕ) (z : Held) → slice_get (known2 p) q ≡ Some z → (slice_get (known p) q ≡ Some z)
       ⊎ ((p ≡ i) × (r ≡ z)))
       → slice_get (owns k) q0 ≡ Some r → counts i k ≤ q0 → k ≢ i
-      → AreLocked preferred owns known2 counts slows locks
+      → AreLocked homes owns known2 counts slows wants locks
   received known2 i r k q0 know owned_ low apart = record {
     held = L.held;
     over = L.over;
     single = L.single;
-    clean = λ p j n t objs x asked h o z q oid here w c pr. elim (know p q z here) [
-      | inl was ↦ L.clean p j n t objs x asked h o z q oid was w c pr
+    home = L.home;
+    clean = λ p j n t objs x asked h o z q oid here w c. elim (know p q z here) [
+      | inl was ↦ L.clean p j n t objs x asked h o z q oid was w c
       | inr new ↦
           let writes : Contains (write_set r.tx.updates) oid =
           subst (λ (y : Held). Contains (write_set y.tx.updates) oid) (sym new.1) w in
-          let waiting = L.waits i k q0 r oid owned_ low writes (pr ∙ new.0) in
-          let one = L.single i j k n r.tx.slow t waiting.0 objs waiting.1 oid
-          (subst (λ a. locks a j n ≡ Locked t objs) new.0 h) waiting.2 c waiting.3 (pr ∙ new.0) in
-          elim (zero_or r.tx.slow) [
-            | inl fast_ ↦ absurd (apart (sym (L.fast k q0 r owned_ fast_ oid writes) ∙ (pr ∙ new.0)))
-            | inr slow_ ↦
-                let d = L.slow k q0 r owned_ slow_ in
-                absurd (decided_not_open (slows k r.tx.slow) r.tx x asked d
-                (subst (λ a. slows k a ≡ Undecided x asked) one.1
-                (subst (λ a. slows a n ≡ Undecided x asked) one.0 o)))
-          ]
+          let at_i : locks i j n ≡ Locked t objs = subst (λ a. locks a j n ≡ Locked t objs) new.0 h in
+          let waiting = L.waits i k q0 r oid owned_ low writes (L.home i j n t objs oid at_i c) in
+          let one = L.single i j k n r.tx.slow t waiting.0 objs waiting.1 oid at_i waiting.2 c waiting.3 in
+          let d = L.slow k q0 r owned_ (locked_some i k r.tx.slow oid waiting) in
+          absurd (decided_not_open (slows k r.tx.slow) r.tx x asked d
+          (subst (λ a. slows k a ≡ Undecided x asked) one.1
+          (subst (λ a. slows a n ≡ Undecided x asked) one.0 o)))
     ];
     waits = L.waits;
-    fast = L.fast;
+    none = L.none;
     slow = L.slow;
     once = L.once;
     local = L.local;
@@ -438,34 +494,36 @@ module _ (preferred : ObjId → SiteId) (owns known : SiteId → List Held) (cou
   pub clear_fast : (i : SiteId) (v : List ℕ) (oids : List ObjId)
       → ((p k : SiteId) (q : ℕ) (z : Held) → slice_get (owns k) q ≡ Some z → q < counts p k → (l : ℕ)
       × (slice_get (known p) l ≡ Some z))
-      → ((oid : ObjId) → Contains oids oid → preferred oid ≡ i) → IsUnmodified preferred i v oids (known i)
-      → IsUnlocked preferred i (locks i) oids
+      → ((oid : ObjId) → Contains oids oid → homes i oid.container ≡ i) → IsUnmodified v oids (known i)
+      → IsUnlocked (locks i) oids
       → (k : SiteId) (q : ℕ) (z : Held) (oid : ObjId) → slice_get (owns k) q ≡ Some z
       → Contains (write_set z.tx.updates) oid
       → Contains oids oid → sees v z ≡ true
   clear_fast i v oids place local unmodified unlocked k q z oid here w c = elim (low_or q (counts i k)) [
-    | inl low ↦ let l = place i k q z here low in unmodified z l.0 oid l.1 w c (local oid c)
+    | inl low ↦ let l = place i k q z here low in unmodified z l.0 oid l.1 w c
     | inr high ↦ let h = L.waits i k q z oid here high w (local oid c) in
-        absurd (unlocked k z.tx.slow h.0 h.1 oid h.2 h.3 c (local oid c))
+        absurd (unlocked k z.tx.slow h.0 h.1 oid h.2 h.3 c)
   ]
 
   -- of a slow one
   pub clear_slow : (i : SiteId) (n : ℕ) (x : Tx) (asked : List SiteId) → n ≢ 0 → slows i n ≡ Undecided x asked
       → ((p k : SiteId) (q : ℕ) (z : Held) → slice_get (owns k) q ≡ Some z → q < counts p k → (l : ℕ)
       × (slice_get (known p) l ≡ Some z))
-      → ((oid : ObjId) → Contains (write_set x.updates) oid → IsHeld (locks (preferred oid) i n) oid)
+      → ((oid : ObjId) → Contains (write_set x.updates) oid → IsLockedFor locks i n oid)
       → (k : SiteId) (q : ℕ) (z : Held) (oid : ObjId) → slice_get (owns k) q ≡ Some z
       → Contains (write_set z.tx.updates) oid
       → Contains (write_set x.updates) oid → sees x.start z ≡ true
   clear_slow i n x asked some open_ place have k q z oid here w c =
-      let p = preferred oid in
-      let mine = have oid c in
+      let there = have oid c in
+      let p = there.site in
+      let mine = there.lock in
+      let at_home = L.home p i n mine.0 mine.1 oid mine.2 mine.3 in
       elim (low_or q (counts p k)) [
         | inl low ↦ let l = place p k q z here low in
-            L.clean p i n mine.0 mine.1 x asked mine.2 open_ z l.0 oid l.1 w mine.3 refl
+            L.clean p i n mine.0 mine.1 x asked mine.2 open_ z l.0 oid l.1 w mine.3
         | inr high ↦
-            let h = L.waits p k q z oid here high w refl in
-            let one = L.single p i k n z.tx.slow mine.0 h.0 mine.1 h.1 oid mine.2 h.2 mine.3 h.3 refl in
+            let h = L.waits p k q z oid here high w at_home in
+            let one = L.single p i k n z.tx.slow mine.0 h.0 mine.1 h.1 oid mine.2 h.2 mine.3 h.3 in
             let d = L.slow k q z here (λ e. some (one.1 ∙ e)) in
             absurd (decided_not_open (slows k z.tx.slow) z.tx x asked d
             (subst (λ a. slows k a ≡ Undecided x asked) one.1
@@ -475,24 +533,31 @@ module _ (preferred : ObjId → SiteId) (owns known : SiteId → List Held) (cou
   -- a site that has something of a slow commit holds its lock, while it is undecided
   pub said_yes : (p i : SiteId) (n : ℕ) (x : Tx) (asked : List SiteId) (oid : ObjId) → slows i n ≡ Undecided x asked
       → locks p i n ≢ Free
-      → Contains (write_set x.updates) oid → preferred oid ≡ p → IsHeld (locks p i n) oid
-  said_yes p i n x asked oid open_ some w pr = elim (locks p i n) as (λ g. locks p i n ≡ g → IsHeld g oid) [
+      → Contains (wants i n p) oid → IsHeld (locks p i n) oid
+  said_yes p i n x asked oid open_ some w = elim (locks p i n) as (λ g. locks p i n ≡ g → IsHeld g oid) [
     | Free ↦ λ e. absurd (some e)
     | Locked t objs ↦ λ e.
         let o = L.held p i n t objs e in
-        let same : o.0 ≡ x = same_open (slows i n) o.0 x asked o.1 open_ in
-        (t, objs, refl, (o.3 oid pr).1 (subst (λ (y : Tx). Contains (write_set y.updates) oid) (sym same) w))
+        (t, objs, refl, subst (λ z. Contains z oid) (sym o.3) w)
     | Over ↦ λ e. absurd (ended_not_open (slows i n) x asked (L.over p i n e) open_)
   ] refl
 
-  -- once each other site that a slow commit writes at has something of it, all that it writes is locked
+  -- once each site that a slow commit asks has something of it, all that it writes is locked
   pub all_held : (i : SiteId) (n : ℕ) (x : Tx) (asked : List SiteId) → slows i n ≡ Undecided x asked
-      → ((oid : ObjId) → Contains (write_set x.updates) oid → preferred oid ≢ i → locks (preferred oid) i n ≢ Free)
-      → (oid : ObjId) → Contains (write_set x.updates) oid → IsHeld (locks (preferred oid) i n) oid
-  all_held i n x asked open_ voted oid w = elim (site_cases (preferred oid) i) [
-    | inl home ↦ subst (λ p. IsHeld (locks p i n) oid) (sym home.1) (L.local i n x asked oid open_ w home.1)
-    | inr away ↦ said_yes (preferred oid) i n x asked oid open_ (voted oid w away.1) w refl
-  ]
+      → ((oid : ObjId) → Contains (write_set x.updates) oid
+      → (p : SiteId) × Contains (wants i n p) oid × ((p ≡ i) ⊎ Contains asked p))
+      → ((p : SiteId) → Contains asked p → locks p i n ≢ Free)
+      → (oid : ObjId) → Contains (write_set x.updates) oid → IsLockedFor locks i n oid
+  all_held i n x asked open_ all voted oid w =
+      let there = all oid w in
+      let p = there.0 in
+      elim there.2 [
+        | inl home ↦ record {
+          site = i;
+          lock = L.local i n x asked oid open_ (subst (λ z. Contains (wants i n z) oid) home there.1);
+        }
+        | inr away ↦ record { site = p; lock = said_yes p i n x asked oid open_ (voted p away) there.1 }
+      ]
 
   -- the owner of a lock is of its coordinator, where each begun transaction is
   pub lock_site : ((j : SiteId) (n : ℕ) (x : Tx) → begun (slows j n) ≡ Some x → x.tid.site ≡ j)

@@ -9,12 +9,10 @@ use Rattle.std.proofs.lemmas.List.Kept.{AllPairs-filter}
 use Rattle.std.proofs.lemmas.List.Sums.{length-filter}
 use Rattle.walter_base.specs.declared.message.Record.{Record}
 use Rattle.walter_base.specs.declared.message.Record.TheVariants.{Seen, Marks}
-use Rattle.walter_base.specs.declared.names.ObjId.{ObjId}
 use Rattle.walter_base.specs.declared.names.SiteId.{SiteId}
 use Rattle.walter_base.specs.declared.packet.Packet.{Packet}
 use Rattle.walter_base.specs.declared.packet.Packet.TheVariants.{Ack, Dsmark, Visible}
 use Rattle.walter_base.specs.Names.{same_site}
-use Rattle.walter_base.specs.Values.{object_of}
 use Rattle.walter_base.proofs.Counted.{All-Contains_filter}
 use Rattle.walter_base.proofs.NameTests.{same_site-true}
 use Rattle.walter_rules.specs.declared.held.Held.{Held}
@@ -22,24 +20,28 @@ use Rattle.walter_agreement.specs.Marks.{IsDurable, AreDurable, AreVisible}
 use Rattle.walter_agreement.proofs.Cases.{site_cases, low_or, none_not_some}
 
 -- what is durable stays so while sites only get more
-pub durable_later : (preferred : ObjId → SiteId) (f : ℕ) (owned owned2 : List Held) (got got2 : SiteId → ℕ)
-    → ((q : ℕ) (r : Held) → slice_get owned q ≡ Some r → slice_get owned2 q ≡ Some r) → ((k : SiteId) → got k ≤ got2 k)
-    → (m : ℕ) → IsDurable preferred f owned got m → IsDurable preferred f owned2 got2 m
-durable_later preferred f owned owned2 got got2 own more m d = record {
+pub durable_later : (placed placed2 : ℕ → List SiteId) (f : ℕ) (owned owned2 : List Held) (got got2 : SiteId → ℕ)
+    → ((q : ℕ) (r : Held) → slice_get owned q ≡ Some r → slice_get owned2 q ≡ Some r)
+    → ((m : ℕ) (r : Held) → 1 ≤ m → slice_get owned (m - 1) ≡ Some r → placed2 m ≡ placed m)
+    → ((k : SiteId) → got k ≤ got2 k)
+    → (m : ℕ) → 1 ≤ m → IsDurable placed f owned got m → IsDurable placed2 f owned2 got2 m
+durable_later placed placed2 f owned owned2 got got2 own places more m one d = record {
   row = d.row;
   here = own (m - 1) d.row d.here;
   holders = d.holders;
   distinct = d.distinct;
   many = d.many;
   hold = λ k c. let a = d.hold k c in let b = more k in omega (arith, a, b);
-  among = d.among;
+  among = λ k c. d.among k (subst (λ ks. Contains ks k) (places m d.row one d.here) c);
 }
 
-pub all_durable_later : (preferred : ObjId → SiteId) (f : ℕ) (owned owned2 : List Held) (got got2 : SiteId → ℕ)
-    → ((q : ℕ) (r : Held) → slice_get owned q ≡ Some r → slice_get owned2 q ≡ Some r) → ((k : SiteId) → got k ≤ got2 k)
-    → (d e : ℕ) → e ≤ d → AreDurable preferred f owned got d → AreDurable preferred f owned2 got2 e
-all_durable_later preferred f owned owned2 got got2 own more d e fewer are m one l =
-    durable_later preferred f owned owned2 got got2 own more m (are m one (omega (arith, l, fewer)))
+pub all_durable_later : (placed placed2 : ℕ → List SiteId) (f : ℕ) (owned owned2 : List Held) (got got2 : SiteId → ℕ)
+    → ((q : ℕ) (r : Held) → slice_get owned q ≡ Some r → slice_get owned2 q ≡ Some r)
+    → ((m : ℕ) (r : Held) → 1 ≤ m → slice_get owned (m - 1) ≡ Some r → placed2 m ≡ placed m)
+    → ((k : SiteId) → got k ≤ got2 k)
+    → (d e : ℕ) → e ≤ d → AreDurable placed f owned got d → AreDurable placed2 f owned2 got2 e
+all_durable_later placed placed2 f owned owned2 got got2 own places more d e fewer are m one l =
+    durable_later placed placed2 f owned owned2 got got2 own places more m one (are m one (omega (arith, l, fewer)))
 
 pub visible_later : (sites : List SiteId) (committed committed2 : SiteId → ℕ)
     → ((k : SiteId) → committed k ≤ committed2 k)
@@ -47,24 +49,24 @@ pub visible_later : (sites : List SiteId) (committed committed2 : SiteId → ℕ
 visible_later sites committed committed2 more v w fewer are k c = let a = are k c in let b = more k in
     omega (arith, a, b, fewer)
 
--- by a test that only sites pass that have it: where so many of them pass, and the preferred ones do, it is durable
-pub durable_by_count : (preferred : ObjId → SiteId) (f : ℕ) (owned : List Held) (got : SiteId → ℕ) (m : ℕ)
+-- by a test that only sites pass that have it: where so many of them pass, and those at which it is to be held, it is
+-- durable
+pub durable_by_count : (placed : ℕ → List SiteId) (f : ℕ) (owned : List Held) (got : SiteId → ℕ) (m : ℕ)
     (sites : List SiteId) (has : SiteId → Bool) (r : Held)
     → AllPairs (λ a b. a ≢ b) sites → ((k : SiteId) → has k ≡ true → m ≤ got k) → slice_get owned (m - 1) ≡ Some r
     → f + 1 ≤ count_by has sites
-    → ((oid : ObjId) → Contains (map object_of r.tx.updates) oid → Contains sites (preferred oid)
-    × (has (preferred oid) ≡ true))
-    → IsDurable preferred f owned got m
-durable_by_count preferred f owned got m sites has r distinct true_ here enough homes = record {
+    → ((k : SiteId) → Contains (placed m) k → Contains sites k × (has k ≡ true))
+    → IsDurable placed f owned got m
+durable_by_count placed f owned got m sites has r distinct true_ here enough homes = record {
   row = r;
   here = here;
   holders = filter has sites;
   distinct = AllPairs-filter (λ a b. a ≢ b) has sites distinct;
   many = let e = length-filter has sites in omega (arith, e, enough);
   hold = λ k c. true_ k (All-contains (λ x. has x ≡ true) (filter has sites) k (filter_passes has sites) c);
-  among = λ oid c.
-      let h = homes oid c in
-      All-contains (λ x. has x ≡ true → Contains (filter has sites) x) sites (preferred oid)
+  among = λ k c.
+      let h = homes k c in
+      All-contains (λ x. has x ≡ true → Contains (filter has sites) x) sites k
       (All-Contains_filter has sites) h.0 h.1;
 }
 
@@ -89,10 +91,10 @@ visible_by_told i sites committed said v mine true_ told k c = elim (site_cases 
 ]
 
 -- a mark that is the greater of its floor and what was counted is true where both are
-pub durable_mark_true : (preferred : ObjId → SiteId) (f : ℕ) (owned : List Held) (got : SiteId → ℕ) (floor counted : ℕ)
-    → AreDurable preferred f owned got floor → AreDurable preferred f owned got counted
-    → AreDurable preferred f owned got (max floor counted)
-durable_mark_true preferred f owned got floor counted below above m one l = elim (low_or floor m) [
+pub durable_mark_true : (placed : ℕ → List SiteId) (f : ℕ) (owned : List Held) (got : SiteId → ℕ) (floor counted : ℕ)
+    → AreDurable placed f owned got floor → AreDurable placed f owned got counted
+    → AreDurable placed f owned got (max floor counted)
+durable_mark_true placed f owned got floor counted below above m one l = elim (low_or floor m) [
   | inr under ↦ below m one under
   | inl over ↦ above m one (omega (arith, l, over))
 ]
@@ -105,42 +107,43 @@ visible_mark_true sites committed floor counted below above k c = let a = below 
 
 -- a packet from k to j is so, of the own commits of each site, and of how many commits of j site k has, `got k j`,
 -- and has committed, `committed k j`
-abbrev pub IsTruePacket : (ObjId → SiteId) → ℕ → (SiteId → List Held) → (SiteId → SiteId → ℕ) → (SiteId → SiteId → ℕ)
+abbrev pub IsTruePacket : (SiteId → ℕ → List SiteId) → ℕ → (SiteId → List Held) → (SiteId → SiteId → ℕ)
+    → (SiteId → SiteId → ℕ)
     → SiteId → SiteId → Packet → Type 0
-IsTruePacket preferred f owns got committed k j (Ack g) = g ≤ got k j
-IsTruePacket preferred f owns got committed k j (Visible v) = v ≤ committed k j
-IsTruePacket preferred f owns got committed k j (Dsmark d) = AreDurable preferred f (owns k) (λ s. got s k) d
-IsTruePacket preferred f owns got committed k j packet = Unit {0}
+IsTruePacket placed f owns got committed k j (Ack g) = g ≤ got k j
+IsTruePacket placed f owns got committed k j (Visible v) = v ≤ committed k j
+IsTruePacket placed f owns got committed k j (Dsmark d) = AreDurable (placed k) f (owns k) (λ s. got s k) d
+IsTruePacket placed f owns got committed k j packet = Unit {0}
 
 -- a record of site i is so
-abbrev pub IsTrueRecord : (ObjId → SiteId) → List SiteId → ℕ → (SiteId → List Held) → (SiteId → SiteId → ℕ)
+abbrev pub IsTrueRecord : (SiteId → ℕ → List SiteId) → List SiteId → ℕ → (SiteId → List Held) → (SiteId → SiteId → ℕ)
     → (SiteId → SiteId → ℕ) → SiteId → Record → Type 0
-IsTrueRecord preferred sites f owns got committed i (Seen j m) = AreDurable preferred f (owns j) (λ s. got s j) m
-IsTrueRecord preferred sites f owns got committed i (Marks d v) = AreDurable preferred f (owns i) (λ s. got s i) d
+IsTrueRecord placed sites f owns got committed i (Seen j m) = AreDurable (placed j) f (owns j) (λ s. got s j) m
+IsTrueRecord placed sites f owns got committed i (Marks d v) = AreDurable (placed i) f (owns i) (λ s. got s i) d
     × AreVisible sites (λ s. committed s i) v
-IsTrueRecord preferred sites f owns got committed i written = Unit {0}
+IsTrueRecord placed sites f owns got committed i written = Unit {0}
 
 -- what was put out, the marks that were journaled, and the records in flight are so; and what other sites have
 -- committed is durable
-pub record AreMarked (preferred : ObjId → SiteId) (sites : List SiteId) (f : ℕ) (owns : SiteId → List Held)
+pub record AreMarked (placed : SiteId → ℕ → List SiteId) (sites : List SiteId) (f : ℕ) (owns : SiteId → List Held)
     (got committed : SiteId → SiteId → ℕ) (put : SiteId → SiteId → Packet → Type 0) (durable visible : SiteId → ℕ)
     (pend : SiteId → Option Record) : Type 0 where
   pub packets : (k j : SiteId) (packet : Packet) → put k j packet
-      → IsTruePacket preferred f owns got committed k j packet
-  pub durables : (i : SiteId) → AreDurable preferred f (owns i) (λ s. got s i) (durable i)
+      → IsTruePacket placed f owns got committed k j packet
+  pub durables : (i : SiteId) → AreDurable (placed i) f (owns i) (λ s. got s i) (durable i)
   pub visibles : (i : SiteId) → AreVisible sites (λ s. committed s i) (visible i)
-  pub flights : (i : SiteId) (r : Record) → pend i ≡ Some r → IsTrueRecord preferred sites f owns got committed i r
-  pub seen : (i j : SiteId) → i ≢ j → AreDurable preferred f (owns j) (λ s. got s j) (committed i j)
+  pub flights : (i : SiteId) (r : Record) → pend i ≡ Some r → IsTrueRecord placed sites f owns got committed i r
+  pub seen : (i j : SiteId) → i ≢ j → AreDurable (placed j) f (owns j) (λ s. got s j) (committed i j)
 
 -- at first nothing was put out, no marks are above 0, and no site has committed anything of another
-pub none_marked : (preferred : ObjId → SiteId) (sites : List SiteId) (f : ℕ) (owns : SiteId → List Held)
+pub none_marked : (placed : SiteId → ℕ → List SiteId) (sites : List SiteId) (f : ℕ) (owns : SiteId → List Held)
     (got committed : SiteId → SiteId → ℕ) (put : SiteId → SiteId → Packet → Type 0) (durable visible : SiteId → ℕ)
     (pend : SiteId → Option Record)
     → ((k j : SiteId) (packet : Packet) → ¬ put k j packet) → ((i : SiteId) → durable i ≡ 0)
     → ((i : SiteId) → visible i ≡ 0)
     → ((i : SiteId) → pend i ≡ None) → ((i j : SiteId) → i ≢ j → committed i j ≡ 0)
-    → AreMarked preferred sites f owns got committed put durable visible pend
-none_marked preferred sites f owns got committed put durable visible pend silent low unseen none away = record {
+    → AreMarked placed sites f owns got committed put durable visible pend
+none_marked placed sites f owns got committed put durable visible pend silent low unseen none away = record {
   packets = λ k j packet p. absurd (silent k j packet p);
   durables = λ i m one l. absurd (let e = low i in omega (arith, one, l, e));
   visibles = λ i k c. let e = unseen i in omega (arith, e);
@@ -149,23 +152,26 @@ none_marked preferred sites f owns got committed put durable visible pend silent
 }
 
 -- while sites only get and commit more, what is new is so, and no mark rises falsely, all stays so
-module _ (preferred : ObjId → SiteId) (sites : List SiteId) (f : ℕ) (owns owns2 : SiteId → List Held)
+module _ (placed placed2 : SiteId → ℕ → List SiteId) (sites : List SiteId) (f : ℕ) (owns owns2 : SiteId → List Held)
     (got got2 committed committed2 : SiteId → SiteId → ℕ)
     (own : (j : SiteId) (q : ℕ) (r : Held) → slice_get (owns j) q ≡ Some r → slice_get (owns2 j) q ≡ Some r)
+    (places : (j : SiteId) (m : ℕ) (r : Held) → 1 ≤ m → slice_get (owns j) (m - 1) ≡ Some r → placed2 j m ≡ placed j m)
     (more : (k j : SiteId) → got k j ≤ got2 k j) (done : (k j : SiteId) → committed k j ≤ committed2 k j) where
-  later : (j : SiteId) (d e : ℕ) → e ≤ d → AreDurable preferred f (owns j) (λ s. got s j) d
-      → AreDurable preferred f (owns2 j) (λ s. got2 s j) e
-  later j = all_durable_later preferred f (owns j) (owns2 j) (λ s. got s j) (λ s. got2 s j) (own j) (λ k. more k j)
+  later : (j : SiteId) (d e : ℕ) → e ≤ d → AreDurable (placed j) f (owns j) (λ s. got s j) d
+      → AreDurable (placed2 j) f (owns2 j) (λ s. got2 s j) e
+  later j = all_durable_later (placed j) (placed2 j) f (owns j) (owns2 j) (λ s. got s j) (λ s. got2 s j) (own j)
+      (places j)
+      (λ k. more k j)
 
-  pub packet_later : (k j : SiteId) (packet : Packet) → IsTruePacket preferred f owns got committed k j packet
-      → IsTruePacket preferred f owns2 got2 committed2 k j packet
+  pub packet_later : (k j : SiteId) (packet : Packet) → IsTruePacket placed f owns got committed k j packet
+      → IsTruePacket placed2 f owns2 got2 committed2 k j packet
   packet_later k j (Ack g) h = let a = more k j in omega (arith, a, h)
   packet_later k j (Visible v) h = let a = done k j in omega (arith, a, h)
   packet_later k j (Dsmark d) h = later k d d (omega arith) h
   packet_later k j packet h = tt
 
-  pub record_later : (i : SiteId) (r : Record) → IsTrueRecord preferred sites f owns got committed i r
-      → IsTrueRecord preferred sites f owns2 got2 committed2 i r
+  pub record_later : (i : SiteId) (r : Record) → IsTrueRecord placed sites f owns got committed i r
+      → IsTrueRecord placed2 sites f owns2 got2 committed2 i r
   record_later i (Seen j m) h = later j m m (omega arith) h
   record_later i (Marks d v) h = (
     later i d d (omega arith) h.0,
@@ -176,16 +182,16 @@ module _ (preferred : ObjId → SiteId) (sites : List SiteId) (f : ℕ) (owns ow
 
   pub marked_later : (put put2 : SiteId → SiteId → Packet → Type 0) (durable durable2 visible visible2 : SiteId → ℕ)
       (pend pend2 : SiteId → Option Record)
-      → AreMarked preferred sites f owns got committed put durable visible pend
+      → AreMarked placed sites f owns got committed put durable visible pend
       → ((k j : SiteId) (packet : Packet) → put2 k j packet → put k j packet
-      ⊎ IsTruePacket preferred f owns2 got2 committed2 k j packet)
-      → ((i : SiteId) → (durable2 i ≤ durable i) ⊎ AreDurable preferred f (owns2 i) (λ s. got2 s i) (durable2 i))
+      ⊎ IsTruePacket placed2 f owns2 got2 committed2 k j packet)
+      → ((i : SiteId) → (durable2 i ≤ durable i) ⊎ AreDurable (placed2 i) f (owns2 i) (λ s. got2 s i) (durable2 i))
       → ((i : SiteId) → (visible2 i ≤ visible i) ⊎ AreVisible sites (λ s. committed2 s i) (visible2 i))
       → ((i : SiteId) (r : Record) → pend2 i ≡ Some r → (pend i ≡ Some r)
-      ⊎ IsTrueRecord preferred sites f owns2 got2 committed2 i r)
-      → ((i j : SiteId) → i ≢ j → (committed2 i j ≤ committed i j) ⊎ AreDurable preferred f (owns2 j) (λ s. got2 s j)
+      ⊎ IsTrueRecord placed2 sites f owns2 got2 committed2 i r)
+      → ((i j : SiteId) → i ≢ j → (committed2 i j ≤ committed i j) ⊎ AreDurable (placed2 j) f (owns2 j) (λ s. got2 s j)
       (committed2 i j))
-      → AreMarked preferred sites f owns2 got2 committed2 put2 durable2 visible2 pend2
+      → AreMarked placed2 sites f owns2 got2 committed2 put2 durable2 visible2 pend2
   marked_later put put2 durable durable2 visible visible2 pend pend2 A puts durables visibles flights seen = record {
     packets = λ k j packet p. elim (puts k j packet p) [
       | inl old ↦ packet_later k j packet (A.packets k j packet old)

@@ -33,17 +33,16 @@ none_owned part owner free none = record {
 
 module _ (part : SiteId → ℕ → Part) (owner : ObjId → Option Tid) (O : AreOwners part owner) where
   -- an object without an owner is in no lock, and one that is in no lock has no owner
-  pub unowned_unlocked : (preferred : ObjId → SiteId) (i : SiteId) (oids : List ObjId)
-      → ((oid : ObjId) → Contains oids oid → preferred oid ≡ i → owner oid ≡ None) → IsUnlocked preferred i part oids
-  unowned_unlocked preferred i oids none j n t objs oid h c w pr =
-      none_not_some (owner oid) t (none oid w pr) (O.locked j n t objs oid h (object_is_in oid objs c))
+  pub unowned_unlocked : (oids : List ObjId)
+      → ((oid : ObjId) → Contains oids oid → owner oid ≡ None) → IsUnlocked part oids
+  unowned_unlocked oids none j n t objs oid h c w =
+      none_not_some (owner oid) t (none oid w) (O.locked j n t objs oid h (object_is_in oid objs c))
 
-  pub unlocked_unowned : (preferred : ObjId → SiteId) (i : SiteId) (oids : List ObjId)
-      → IsUnlocked preferred i part oids
-      → (oid : ObjId) → Contains oids oid → preferred oid ≡ i → owner oid ≡ None
-  unlocked_unowned preferred i oids free oid w pr = elim (owner oid) as (λ o. owner oid ≡ o → o ≡ None) [
+  pub unlocked_unowned : (oids : List ObjId) → IsUnlocked part oids
+      → (oid : ObjId) → Contains oids oid → owner oid ≡ None
+  unlocked_unowned oids free oid w = elim (owner oid) as (λ o. owner oid ≡ o → o ≡ None) [
     | None ↦ λ e. refl
-    | Some t ↦ λ e. let l = O.owned oid t e in absurd (free l.0 l.1 t l.2 oid l.3 (object_in oid l.2 l.4) w pr)
+    | Some t ↦ λ e. let l = O.owned oid t e in absurd (free l.0 l.1 t l.2 oid l.3 (object_in oid l.2 l.4) w)
   ] refl
 
   -- locks go, and with them the owners of their objects

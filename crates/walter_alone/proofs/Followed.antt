@@ -1,6 +1,7 @@
 -- Each record that the rules make can follow those before it, by what holds of a site alone.
-use Rattle.std.proofs.Common.{◌≡◌, ◌<◌, ◌≤◌, ℕ, zero, suc, Bool, true, false, nat_eq, ◌&&◌, List, map, Some, None, IfSome, if◌then◌else◌, refl, ap, sym, ◌∙◌, subst, arith}
+use Rattle.std.proofs.Common.{◌≡◌, ◌<◌, ◌≤◌, ℕ, zero, suc, Bool, true, false, nat_eq, ◌&&◌, List, [], ◌∷◌, map, Some, None, IfSome, if◌then◌else◌, refl, ap, sym, ◌∙◌, subst, arith}
 use Rattle.std.specs.Prelude.{Option}
+use Rattle.std.proofs.lemmas.Bool.{lt-ltb}
 use Rattle.std.proofs.lemmas.Option.{same_Some}
 use Rattle.walter_base.specs.declared.catalog.Catalog.{Catalog}
 use Rattle.walter_base.specs.declared.message.Record.{Record}
@@ -11,18 +12,19 @@ use Rattle.walter_base.specs.declared.names.Tid.{Tid}
 use Rattle.walter_base.specs.declared.names.Version.{Version}
 use Rattle.walter_base.specs.declared.packet.Packet.TheVariants.{Ack, Visible}
 use Rattle.walter_base.specs.declared.transaction.Tx.{Tx}
+use Rattle.walter_base.specs.declared.update.Update.TheVariants.{Move}
 use Rattle.walter_base.specs.Conflicts.{first_outside, conflict_over}
 use Rattle.walter_rules.specs.declared.event.Event.{Event}
 use Rattle.walter_rules.specs.declared.event.Event.TheVariants.{Given}
 use Rattle.walter_rules.specs.declared.event.Input.TheVariants.{Deliver}
 use Rattle.walter_rules.specs.declared.outcome.Outcome.{Outcome}
 use Rattle.walter_rules.specs.declared.outcome.Outcome.TheVariants.{Taken}
-use Rattle.walter_rules.specs.Allowed.{IsKind, commits, begins, receives, marks_durable, marks_visible, prepares, decides, gives_up, releases, sees, upgrades, boots, IsFromPeer, Covers}
+use Rattle.walter_rules.specs.Allowed.{IsKind, commits, begins, moves, receives, marks_durable, marks_visible, prepares, decides, gives_up, releases, sees, upgrades, boots, IsFromPeer, Covers}
 use Rattle.walter_rules.specs.Conflicts.{conflict_at}
-use Rattle.walter_rules.specs.Declarations.{are_declared}
+use Rattle.walter_rules.specs.Declarations.{is_known, are_declared}
 use Rattle.walter_rules.specs.Deliveries.{is_peer}
 use Rattle.walter_rules.specs.Knowledge.{Knowledge, session_of}
-use Rattle.walter_rules.specs.Learning.{slow_number, freed_over, recorded, heard, lost}
+use Rattle.walter_rules.specs.Learning.{slow_number, freed_over, without_over, recorded, heard, lost}
 use Rattle.walter_rules.specs.Log.{row, version_of, of_site, commit_at}
 use Rattle.walter_rules.specs.Marks.{passed, is_held, is_visible, durable_mark, visible_mark}
 use Rattle.walter_rules.specs.Objects.{objects_at}
@@ -34,7 +36,7 @@ use Rattle.walter_rules.proofs.WrittenObjects.{objects_at_from}
 use Rattle.walter_agreement.proofs.Issued.{Issued}
 use Rattle.walter_agreement.proofs.Tidy.{IsTidy}
 use Rattle.walter_alone.proofs.Learned.{IsLearned}
-use Rattle.walter_alone.proofs.SoundSessions.{AreSound}
+use Rattle.walter_alone.proofs.SoundSessions.{AreSound, writable_declared}
 use Rattle.walter_alone.proofs.TestsPass.{all_of, peer_passes, covers_pass}
 
 -- it goes by what the records tell alone
@@ -99,6 +101,10 @@ freed_lost : (j : SiteId) (n : ℕ) (K : Knowledge) (oid : ObjId) → freed_over
 freed_lost j zero K oid = refl
 freed_lost j (suc n) K oid = refl
 
+without_lost : (j : SiteId) (n : ℕ) (K : Knowledge) → without_over j n K ≡ without_over j n (lost K)
+without_lost j zero K = refl
+without_lost j (suc n) K = refl
+
 -- what is left behind a record goes by what was left before it
 pub lost_recorded : (catalog : Catalog) (i : SiteId) (K : Knowledge) (rec : Record)
     → lost (recorded catalog i (Some rec) K) ≡ recorded catalog i (Some rec) (lost K)
@@ -109,7 +115,12 @@ lost_recorded catalog i K (Seen j seq) =
     let same : (λ oid. freed_over j (slow_number (commit_at j seq K.log)) K oid) ≡
     (λ oid. freed_over j (slow_number (commit_at j seq K.log)) (lost K) oid) = λ t oid. freed_lost j
     (slow_number (commit_at j seq K.log)) K oid t in
-    ap (λ (owner : ObjId → Option Tid). record (recorded catalog i (Some (Seen j seq)) (lost K)) { owner = owner }) same
+    ap (λ (owner : ObjId → Option Tid). record (recorded catalog i (Some (Seen j seq)) (lost K)) {
+      owner = owner;
+      locked = without_over j (slow_number (commit_at j seq K.log)) K;
+    }) same
+    ∙ ap (λ (locked : List ObjId). record (recorded catalog i (Some (Seen j seq)) (lost K)) { locked = locked })
+    (without_lost j (slow_number (commit_at j seq K.log)) K)
 lost_recorded catalog i K (Prepared j n tid objects) = refl
 lost_recorded catalog i K (Released j n) = refl
 lost_recorded catalog i K (SlowBegin n tx) = refl
@@ -154,6 +165,11 @@ marks_rise catalog i before K booted durable visible same_durable same_visible s
       visible_own = omega (arith, same_visible, same_own, visible, v);
     }
 
+-- a container of the catalog that is handed to a site of it
+move_declared : (catalog : Catalog) (container : ℕ) (to : SiteId) → is_known catalog container ≡ true
+    → to.0 < catalog.sites → are_declared catalog (Move container to ∷ []) ≡ true
+move_declared catalog container to known below = rw (known, lt-ltb to.0 catalog.sites below) refl
+
 -- where sessions are of transactions of the site that write what the catalog has, and an undecided slow commit is of
 -- the site, under its own number
 module _ (catalog : Catalog) (i : SiteId) (S : Standing) (L : IsLearned catalog i S.knows)
@@ -174,6 +190,13 @@ module _ (catalog : Catalog) (i : SiteId) (S : Standing) (L : IsLearned catalog 
     here = (sessions client s open_.session).0;
     slow = λ begun_. absurd (let e = open_.is_open in omega (arith, begun_, e));
     declared = (sessions client s open_.session).1;
+  }
+  record_follows event wrote outcome (moves client container to may) = record {
+    booted = booted may.up;
+    next = refl;
+    here = refl;
+    slow = λ begun_. absurd (omega (arith, begun_));
+    declared = move_declared catalog container to may.known may.below;
   }
   record_follows event wrote outcome (begins client s open_ some clear) = record {
     booted = booted open_.up;
@@ -246,5 +269,6 @@ pub kind_follows : (catalog : Catalog) (i : SiteId) (S : Standing) (numbers : Is
     → (S.up ≡ true → 0 < S.knows.epoch) → (event : Event) (wrote : Option Record) (outcome : Outcome)
     → IsKind catalog i S event wrote outcome → IfSome wrote (CanFollow catalog i S.knows)
 kind_follows catalog i S numbers L A T booted =
-    record_follows catalog i S L (λ client s is. ((A.started client s is).0, A.declared client s is))
+    record_follows catalog i S L (λ client s is.
+    ((A.started client s is).0, writable_declared catalog s.updates (A.declared client s is)))
     (λ n tx asked undecided. let name = T.named n tx (ap begun undecided) in (name.0, name.2)) booted

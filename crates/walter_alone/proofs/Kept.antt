@@ -1,14 +1,16 @@
 -- What a site keeps by itself: where it goes on, begins a transaction or a slow commit, goes down, comes up, or finds
 -- a record that was in flight.
 use Rattle.std.proofs.Common.{◌≡◌, ◌≢◌, ◌+◌, ◌<◌, ◌≤◌, ◌⊎◌, ℕ, zero, suc, nat_eq, Bool, true, false, List, [], ◌∷◌, ◌++◌, length, slice_get, Some, None, IfSome, option_map, Ok, refl, ap, sym, ◌∙◌, subst, arith, inl, inr, if◌then◌else◌}
-use Rattle.std.specs.Prelude.{Option}
+use Rattle.std.specs.Prelude.{Option, Result}
 use Rattle.std.proofs.lemmas.Bool.{cases_Bool, eqb-true, eq-eqb}
 use Rattle.std.proofs.lemmas.Option.{same_Some}
 use Rattle.walter_base.specs.declared.catalog.Catalog.{Catalog}
 use Rattle.walter_base.specs.declared.message.Record.{Record}
+use Rattle.walter_base.specs.declared.message.BadFrame.{BadFrame}
 use Rattle.walter_base.specs.declared.message.Record.TheVariants.{Boot, Own, Got, Seen, Prepared, Released, SlowBegin, SlowEnd, Marks, Format as FormatRecord}
 use Rattle.walter_base.specs.declared.message.Reply.TheVariants.{Started, Deciding}
-use Rattle.walter_base.specs.declared.message.Request.TheVariants.{Start, Commit}
+use Rattle.walter_base.specs.declared.message.Request.{Request}
+use Rattle.walter_base.specs.declared.message.Request.TheVariants.{Commit, Handover}
 use Rattle.walter_base.specs.declared.names.SiteId.{SiteId}
 use Rattle.walter_base.specs.declared.names.Tid.{Tid}
 use Rattle.walter_base.specs.declared.transaction.Tx.{Tx}
@@ -23,7 +25,6 @@ use Rattle.walter_rules.specs.declared.held.Held.{Held}
 use Rattle.walter_rules.specs.declared.outcome.Outcome.{Outcome}
 use Rattle.walter_rules.specs.declared.outcome.Outcome.TheVariants.{Replied, Taken}
 use Rattle.walter_rules.specs.Calls.{next_tid, next_slow}
-use Rattle.walter_rules.specs.Declarations.{are_declared}
 use Rattle.walter_rules.specs.Knowledge.{Knowledge, fresh, session_of, vector_of}
 use Rattle.walter_rules.specs.Learning.{epoch_after, log_after, one_more, committed_after, last_after, slow_after, starts_after, sessions_after, recorded, after, lost}
 use Rattle.walter_rules.specs.Log.{is_of, of_site}
@@ -40,7 +41,7 @@ use Rattle.walter_agreement.proofs.Tidy.{IsTidy, IsUnbegun, IsOwn, IsOn, AreFrom
 use Rattle.walter_alone.proofs.Alone.{issued_by}
 use Rattle.walter_alone.proofs.Followed.{follow_lost, lost_recorded}
 use Rattle.walter_alone.proofs.Learned.{IsLearned, learned_fresh, learned_lost, learned_after, learned_recorded}
-use Rattle.walter_alone.proofs.SoundSessions.{AreSound, none_sound, WasThere, sound_from, sound_new, vector_within}
+use Rattle.walter_alone.proofs.SoundSessions.{AreSound, are_writable, none_sound, WasThere, sound_from, sound_new, vector_within}
 
 -- of whether a site is up, what it knows, and the record in flight
 pub record IsKept (catalog : Catalog) (i : SiteId) (up : Bool) (K : Knowledge) (flight : Option Record) : Type 0 where
@@ -112,7 +113,7 @@ committed_grows i (Some (Seen from seq)) committed k = one_more_grows from commi
 committed_grows i (Some rec) committed k = omega arith
 
 -- what was started before a stop stays so
-issued_down : (up : Bool) (K : Knowledge) (x : Tid) → IsIssued (issued_by up K) x → IsIssued (issued_by false K) x
+pub issued_down : (up : Bool) (K : Knowledge) (x : Tid) → IsIssued (issued_by up K) x → IsIssued (issued_by false K) x
 issued_down true K x is = elim is [
   | inl over ↦ inl (omega (arith, over))
   | inr here ↦ inl (let e = here.0 in omega (arith, e))
@@ -282,7 +283,7 @@ module _ (catalog : Catalog) (i : SiteId) (up : Bool) (K : Knowledge) (flight : 
   abbrev pub CanBegin : Record → Type 0
   CanBegin (SlowBegin n x) = (x.tid.site ≡ i) × IsIssued (issued_by up K) x.tid × IsUnbegun K.slow x.tid
       × (IsFast (of_site i K.log) x.tid → ⊥)
-  CanBegin (Own seq x) = x.slow ≡ 0 → IsFreeName K.slow (issued_by up K) x.tid
+  CanBegin (Own seq x) = x.slow ≡ 0 → IsFreeName K.slow (issued_by false K) x.tid
   CanBegin rec = Unit {0}
 
   -- the site goes down, with a record in flight or without one
@@ -302,7 +303,7 @@ module _ (catalog : Catalog) (i : SiteId) (up : Bool) (K : Knowledge) (flight : 
         (λ c. session_of (lost K) c) K.slow flight2 (issued_by false K) (of_site i K.log)
         (issued_down up K) (λ n x b. b) (λ tid h. inl h)
         (λ c s h. absurd (none_not_some (session_of (lost K) c) s refl h))
-        (λ seq x h zero_. let f = (new (Own seq x) h).1 zero_ in (issued_down up K x.tid f.0, f.1))
+        (λ seq x h zero_. (new (Own seq x) h).1 zero_)
         (λ n x h. (new (SlowBegin n x) h).1.3);
     learned = learned_lost catalog i K I.learned;
     sound = none_sound catalog i (λ c. session_of (lost K) c) K.committed (issued_by false K) (λ c. refl);
@@ -468,28 +469,29 @@ module _ (catalog : Catalog) (i : SiteId) (K : Knowledge) (flight : Option Recor
   stays : (event : Event) (outcome : Outcome) (wrote : Option Record) → IsPlain wrote
       → IfSome wrote (CanFollow catalog i K)
       → ((x : Tid) → IsIssued (issued_by true K) x → IsIssued
-      (record { epoch = K.epoch; starts = starts_after outcome K.starts }) x)
+      (record { epoch = K.epoch; starts = starts_after event outcome K.starts }) x)
       → AreFrom (λ c. session_of K c) (HasThen event outcome wrote) (issued_by true K)
       → ((c n : ℕ) (s : Session) (x : Tx) (asked : List SiteId) → K.slow n ≡ Undecided x asked → session_of K c ≡ Some s
       → s.slow ≡ n → HasThen event outcome wrote c ≡ Some s)
       → AreSound catalog i (HasThen event outcome wrote) (committed_after i wrote K.committed)
-      (record { epoch = K.epoch; starts = starts_after outcome K.starts })
+      (record { epoch = K.epoch; starts = starts_after event outcome K.starts })
       → IsNewName (HasThen event outcome wrote) K.slow
-      (record { epoch = K.epoch; starts = starts_after outcome K.starts }) wrote
+      (record { epoch = K.epoch; starts = starts_after event outcome K.starts }) wrote
       → IsKept catalog i true (Then event outcome wrote) None
   stays event outcome wrote plain f rise from waits sound name =
       let on = on_plain catalog i true K flight I wrote plain f in
       let epoch : epoch_after wrote K.epoch ≡ K.epoch = plain_epoch wrote K.epoch plain in
       record {
         tidy = subst (λ e. IsTidy i (HasThen event outcome wrote) (slow_after catalog i K wrote) None true
-            (last_after wrote K.last) (record { epoch = e; starts = starts_after outcome K.starts })
+            (last_after wrote K.last) (record { epoch = e; starts = starts_after event outcome K.starts })
             (of_site i (log_after wrote K.log))) (sym epoch)
             (subst (λ l. IsTidy i (HasThen event outcome wrote) (slow_after catalog i K wrote) None true l
-            (record { epoch = K.epoch; starts = starts_after outcome K.starts })
+            (record { epoch = K.epoch; starts = starts_after event outcome K.starts })
             (of_site i (log_after wrote K.log))) (sym (plain_last wrote K.last plain))
             (goes_on i (λ c. session_of K c) K.slow flight true K.last (issued_by true K) (of_site i K.log) I.tidy
             (HasThen event outcome wrote) (slow_after catalog i K wrote) None true
-            (record { epoch = K.epoch; starts = starts_after outcome K.starts }) (of_site i (log_after wrote K.log))
+            (record { epoch = K.epoch; starts = starts_after event outcome K.starts })
+            (of_site i (log_after wrote K.log))
             rise (λ q r h. own_grows i wrote K.log q r h) on from
             (λ up n x asked h. (
               refl,
@@ -500,17 +502,18 @@ module _ (catalog : Catalog) (i : SiteId) (K : Knowledge) (flight : Option Recor
             (λ r h. absurd cc)
             (λ n x h. absurd cc)));
         names = subst (λ e. AreFastNames (HasThen event outcome wrote) (slow_after catalog i K wrote) None
-            (record { epoch = e; starts = starts_after outcome K.starts }) (of_site i (log_after wrote K.log)))
+            (record { epoch = e; starts = starts_after event outcome K.starts }) (of_site i (log_after wrote K.log)))
             (sym epoch)
             (names_go (λ c. session_of K c) K.slow flight (issued_by true K) (of_site i K.log) I.names
             (HasThen event outcome wrote) (slow_after catalog i K wrote) None
-            (record { epoch = K.epoch; starts = starts_after outcome K.starts }) (of_site i (log_after wrote K.log))
+            (record { epoch = K.epoch; starts = starts_after event outcome K.starts })
+            (of_site i (log_after wrote K.log))
             rise
             (λ n x b. sym (on_begun K.slow (slow_after catalog i K wrote) (of_site i (log_after wrote K.log)) on n) ∙ b)
             (λ tid h. elim (fast_then catalog i K wrote f tid h) [
               | inl was ↦ inl was
               | inr new ↦ inr (new_name (HasThen event outcome wrote) K.slow
-                  (record { epoch = K.epoch; starts = starts_after outcome K.starts }) wrote name tid new)
+                  (record { epoch = K.epoch; starts = starts_after event outcome K.starts }) wrote name tid new)
             ])
             (λ c s h zero_. elim (from c s h) [
               | inl was ↦ inl (was.0, was.1, was.2, was.3 ∙ zero_)
@@ -520,11 +523,45 @@ module _ (catalog : Catalog) (i : SiteId) (K : Knowledge) (flight : Option Recor
             (λ n x h. absurd cc));
         learned = learned_after catalog i K event outcome wrote (learned_then catalog i true K flight I below wrote f);
         sound = subst (λ e. AreSound catalog i (HasThen event outcome wrote) (committed_after i wrote K.committed)
-            (record { epoch = e; starts = starts_after outcome K.starts })) (sym epoch) sound;
+            (record { epoch = e; starts = starts_after event outcome K.starts })) (sym epoch) sound;
         stopped = λ down. absurd cc;
         booted = λ up. subst (λ e. 0 < e) (sym epoch) (I.booted refl);
         flies = tt;
       }
+
+  -- a container is handed over
+  pub hands_one : (client container : ℕ) (to : SiteId) (outcome : Outcome) (rec : Record) → IsPlain (Some rec)
+      → CanFollow catalog i K rec
+      → starts_after (Given (Call client (Ok (Handover container to)))) outcome K.starts ≡ K.starts + 1
+      → sessions_after catalog.friends (Given (Call client (Ok (Handover container to)))) outcome (Some rec)
+      (vector_of catalog (recorded catalog i (Some rec) K)) K.sessions ≡ K.sessions
+      → IsNewName (λ c. session_of K c) K.slow (record { epoch = K.epoch; starts = K.starts + 1 }) (Some rec)
+      → IsKept catalog i true (Then (Given (Call client (Ok (Handover container to)))) outcome (Some rec)) None
+  hands_one client container to outcome rec plain f one all name =
+      let event : Event = Given (Call client (Ok (Handover container to))) in
+      let at_ : (c : ℕ) → HasThen event outcome (Some rec) c ≡ session_of K c = λ c. ap (session_in c) all in
+      let rise : (x : Tid) → IsIssued (issued_by true K) x
+      → IsIssued (record { epoch = K.epoch; starts = starts_after event outcome K.starts }) x = λ x is.
+      subst (λ n. IsIssued (record { epoch = K.epoch; starts = n }) x) (sym one)
+      (issued_by_start (issued_by true K) x is) in
+      stays event outcome (Some rec) plain f rise
+      (λ c s h. inl (s, sym (at_ c) ∙ h, refl, refl, λ some. refl))
+      (λ c n s x asked open_ has number. at_ c ∙ has)
+      (sound_from catalog i (λ c. session_of K c) K.committed (issued_by true K) I.sound
+      (HasThen event outcome (Some rec))
+      (committed_after i (Some rec) K.committed)
+      (record { epoch = K.epoch; starts = starts_after event outcome K.starts })
+      (committed_grows i (Some rec) K.committed) rise (λ c s h. (s, sym (at_ c) ∙ h, refl, refl, λ d. d)))
+      (subst (λ n. IsNewName (HasThen event outcome (Some rec)) K.slow (record { epoch = K.epoch; starts = n })
+      (Some rec))
+      (sym one) (same_names (λ c. session_of K c) (HasThen event outcome (Some rec)) at_ rec name))
+    where
+      same_names : (sess sess2 : ℕ → Option Session) → ((c : ℕ) → sess2 c ≡ sess c) → (rec : Record)
+          → IsNewName sess K.slow (record { epoch = K.epoch; starts = K.starts + 1 }) (Some rec)
+          → IsNewName sess2 K.slow (record { epoch = K.epoch; starts = K.starts + 1 }) (Some rec)
+      same_names sess sess2 at (Own seq tx) name =
+          λ zero_. ((name zero_).0, λ c s h. (name zero_).1 c s (sym (at c) ∙ h))
+      same_names sess sess2 at rec name = tt
 
   -- a session that was there: open ones may have other updates
   abbrev pub WasSession : ℕ → Session → Type 0
@@ -533,24 +570,24 @@ module _ (catalog : Catalog) (i : SiteId) (K : Knowledge) (flight : Option Recor
   -- no transaction starts
   moves : (event : Event) (outcome : Outcome) (wrote : Option Record) → IsPlain wrote
       → IfSome wrote (CanFollow catalog i K)
-      → starts_after outcome K.starts ≡ K.starts
+      → starts_after event outcome K.starts ≡ K.starts
       → ((c : ℕ) (s : Session) → HasThen event outcome wrote c ≡ Some s
       → (z : Session) × (session_of K c ≡ Some z) × (z.tid ≡ s.tid) × (z.slow ≡ s.slow) × (s.slow ≢ 0 → z ≡ s) ×
       (z.snapshot ≡ s.snapshot)
-      × (are_declared catalog z.updates ≡ true → are_declared catalog s.updates ≡ true))
+      × (are_writable catalog z.updates ≡ true → are_writable catalog s.updates ≡ true))
       → ((c n : ℕ) (s : Session) (x : Tx) (asked : List SiteId) → K.slow n ≡ Undecided x asked → session_of K c ≡ Some s
       → s.slow ≡ n → HasThen event outcome wrote c ≡ Some s)
       → IsNewName (HasThen event outcome wrote) K.slow (issued_by true K) wrote
       → IsKept catalog i true (Then event outcome wrote) None
   moves event outcome wrote plain f same from waits name =
       let rise : (x : Tid) → IsIssued (issued_by true K) x
-      → IsIssued (record { epoch = K.epoch; starts = starts_after outcome K.starts }) x
+      → IsIssued (record { epoch = K.epoch; starts = starts_after event outcome K.starts }) x
       = λ x is. subst (λ n. IsIssued (record { epoch = K.epoch; starts = n }) x) (sym same) is in
       stays event outcome wrote plain f rise
       (λ c s h. let z = from c s h in inl (z.0, z.1, z.2, z.3, z.4))
       waits
       (sound_from catalog i (λ c. session_of K c) K.committed (issued_by true K) I.sound (HasThen event outcome wrote)
-      (committed_after i wrote K.committed) (record { epoch = K.epoch; starts = starts_after outcome K.starts })
+      (committed_after i wrote K.committed) (record { epoch = K.epoch; starts = starts_after event outcome K.starts })
       (committed_grows i wrote K.committed) rise (λ c s h. let z = from c s h in (z.0, z.1, z.2, z.5, z.6)))
       (subst (λ n. IsNewName (HasThen event outcome wrote) K.slow (record { epoch = K.epoch; starts = n }) wrote)
       (sym same) name)
@@ -558,7 +595,7 @@ module _ (catalog : Catalog) (i : SiteId) (K : Knowledge) (flight : Option Recor
   -- the sessions stay
   pub quiet : (event : Event) (outcome : Outcome) (wrote : Option Record) → IsPlain wrote
       → IfSome wrote (CanFollow catalog i K)
-      → starts_after outcome K.starts ≡ K.starts → sessions_after event outcome wrote
+      → starts_after event outcome K.starts ≡ K.starts → sessions_after catalog.friends event outcome wrote
       (vector_of catalog (recorded catalog i wrote K)) K.sessions ≡ K.sessions
       → IsNewName (HasThen event outcome wrote) K.slow (issued_by true K) wrote
       → IsKept catalog i true (Then event outcome wrote) None
@@ -576,7 +613,7 @@ module _ (catalog : Catalog) (i : SiteId) (K : Knowledge) (flight : Option Recor
   -- the session of a client ends, whose slow commit isn't being decided
   pub closes : (event : Event) (outcome : Outcome) (wrote : Option Record) (client : ℕ) (s : Session) → IsPlain wrote
       → IfSome wrote (CanFollow catalog i K)
-      → starts_after outcome K.starts ≡ K.starts → session_of K client ≡ Some s
+      → starts_after event outcome K.starts ≡ K.starts → session_of K client ≡ Some s
       → ((x : Tx) (asked : List SiteId) → K.slow s.slow ≡ Undecided x asked → ⊥)
       → ((c : ℕ) → HasThen event outcome wrote c ≡ (if nat_eq client c then None else session_of K c))
       → IsNewName (HasThen event outcome wrote) K.slow (issued_by true K) wrote
@@ -601,10 +638,10 @@ module _ (catalog : Catalog) (i : SiteId) (K : Knowledge) (flight : Option Recor
   -- the open session of a client is changed
   pub changes : (event : Event) (outcome : Outcome) (wrote : Option Record) (client : ℕ) (s : Session)
       (change : Session → Session) → IsPlain wrote → IfSome wrote (CanFollow catalog i K)
-      → starts_after outcome K.starts ≡ K.starts → session_of K client ≡ Some s → s.slow ≡ 0
+      → starts_after event outcome K.starts ≡ K.starts → session_of K client ≡ Some s → s.slow ≡ 0
       → ((z : Session) → (change z).tid ≡ z.tid) → ((z : Session) → (change z).slow ≡ z.slow)
       → ((z : Session) → (change z).snapshot ≡ z.snapshot)
-      → ((z : Session) → are_declared catalog z.updates ≡ true → are_declared catalog (change z).updates ≡ true)
+      → ((z : Session) → are_writable catalog z.updates ≡ true → are_writable catalog (change z).updates ≡ true)
       → ((c : ℕ) → HasThen event outcome wrote c
       ≡ (if nat_eq client c then option_map change (session_of K c) else session_of K c))
       → IsNewName (HasThen event outcome wrote) K.slow (issued_by true K) wrote
@@ -630,7 +667,7 @@ module _ (catalog : Catalog) (i : SiteId) (K : Knowledge) (flight : Option Recor
               sym (slow s) ∙ ap (λ (z : Session). z.slow) one,
               λ some. absurd (some zero_),
               sym (snapshot s) ∙ ap (λ (z : Session). z.snapshot) one,
-              λ d. subst (λ (z : Session). are_declared catalog z.updates ≡ true) one (declared s d),
+              λ d. subst (λ (z : Session). are_writable catalog z.updates ≡ true) one (declared s d),
             )
         | inr e ↦ (t, sym (there c e) ∙ h, refl, refl, λ some. refl, refl, λ d. d)
       ])
@@ -644,10 +681,10 @@ module _ (catalog : Catalog) (i : SiteId) (K : Knowledge) (flight : Option Recor
       name
 
   -- a transaction starts
-  pub starts_one : (client : ℕ) → session_of K client ≡ None
-      → IsKept catalog i true (Then (Given (Call client (Ok Start))) (Replied (Started (next_tid i K))) None) None
-  starts_one client none =
-      let event : Event = Given (Call client (Ok Start)) in
+  pub starts_one : (client : ℕ) (call : Result Request BadFrame) → session_of K client ≡ None
+      → IsKept catalog i true (Then (Given (Call client call)) (Replied (Started (next_tid i K))) None) None
+  starts_one client call none =
+      let event : Event = Given (Call client call) in
       let outcome : Outcome = Replied (Started (next_tid i K)) in
       let new : Session = record { tid = next_tid i K; snapshot = vector_of catalog K; updates = []; slow = 0 } in
       let is : (c : ℕ) → HasThen event outcome None c ≡
@@ -741,7 +778,7 @@ module _ (catalog : Catalog) (i : SiteId) (K : Knowledge) (flight : Option Recor
                     has c e,
                     ap (λ (z : Session). z.tid) one,
                     ap (λ (z : Session). z.snapshot) one,
-                    λ d. subst (λ (z : Session). are_declared catalog z.updates ≡ true) one d,
+                    λ d. subst (λ (z : Session). are_writable catalog z.updates ≡ true) one d,
                   )
               | inr e ↦ (t, sym (there c e) ∙ h, refl, refl, λ d. d)
             ]);

@@ -1,7 +1,8 @@
 -- What a site keeps by itself, over each kind of step of it.
-use Rattle.std.proofs.Common.{◌≡◌, ◌+◌, ◌<◌, ℕ, nat_eq, true, false, List, [], ◌∷◌, ◌++◌, Some, None, IfSome, Ok, option_map, refl, ap, sym, ◌∙◌, subst, inl, inr, if◌then◌else◌}
+use Rattle.std.proofs.Common.{◌≡◌, ◌+◌, ◌<◌, ℕ, nat_eq, true, false, not, List, [], ◌∷◌, ◌++◌, Some, None, IfSome, Ok, option_map, refl, ap, sym, ◌∙◌, subst, arith, inl, inr, if◌then◌else◌}
 use Rattle.std.specs.Prelude.{Option, Result}
-use Rattle.std.proofs.lemmas.Bool.{cases_Bool, eq-eqb}
+use Rattle.std.specs.List.{list_all}
+use Rattle.std.proofs.lemmas.Bool.{cases_Bool, eq-eqb, and_parts}
 use Rattle.std.proofs.lemmas.Option.{same_Some}
 use Rattle.std.proofs.lemmas.List.Folds.{list_all-append}
 use Rattle.walter_base.specs.declared.catalog.Catalog.{Catalog}
@@ -10,16 +11,15 @@ use Rattle.walter_base.specs.declared.message.Level.TheVariants.{NotCommitted, R
 use Rattle.walter_base.specs.declared.message.Record.{Record}
 use Rattle.walter_base.specs.declared.message.Record.TheVariants.{Own, Got, Seen, Prepared, Released, SlowBegin, SlowEnd, Marks, Format as FormatRecord}
 use Rattle.walter_base.specs.declared.message.Reply.{Reply}
-use Rattle.walter_base.specs.declared.message.Reply.TheVariants.{Started, Value, Done, Set, Count, Committed, Aborted, Deciding, Level, Ended, Refused}
+use Rattle.walter_base.specs.declared.message.Reply.TheVariants.{Started, Value, Done, Set, Count, Committed, Aborted, Deciding, Level, Ended, Token as TokenIs, Refused}
 use Rattle.walter_base.specs.declared.message.Request.{Request}
-use Rattle.walter_base.specs.declared.message.Request.TheVariants.{Start, Read, Write, SetAdd, SetDel, SetRead, SetReadId, Commit, Abort, Level as LevelAsked}
+use Rattle.walter_base.specs.declared.message.Request.TheVariants.{Read, SetRead, SetReadId, Commit, Abort, Level as LevelAsked, Handover, Token}
 use Rattle.walter_base.specs.declared.names.SiteId.{SiteId}
 use Rattle.walter_base.specs.declared.packet.Answer.TheVariants.{Yes, No}
 use Rattle.walter_base.specs.declared.packet.Packet.TheVariants.{Propagate, Ack, Dsmark, Visible, Prepare, Vote, Release, Released as ReleasedSaid}
 use Rattle.walter_base.specs.declared.transaction.Cause.TheVariants.{Asked}
 use Rattle.walter_base.specs.declared.transaction.Tx.{Tx}
 use Rattle.walter_base.specs.declared.update.Update.{Update}
-use Rattle.walter_base.specs.declared.update.Update.TheVariants.{Write as WriteOf, Add, Del}
 use Rattle.walter_base.specs.Values.{value_of, count_of, counts_of}
 use Rattle.walter_base.proofs.ByClient.{changed-same, lookup-changed, lookup-without}
 use Rattle.walter_rules.specs.declared.entry.Came.{Came}
@@ -29,24 +29,27 @@ use Rattle.walter_rules.specs.declared.event.Event.TheVariants.{Given, Stop, Res
 use Rattle.walter_rules.specs.declared.event.Input.TheVariants.{Call, Deliver, Advance, Tick, Upgrade}
 use Rattle.walter_rules.specs.declared.outcome.Outcome.{Outcome}
 use Rattle.walter_rules.specs.declared.outcome.Outcome.TheVariants.{Replied, Taken, Passed, Failed, Full, Memory, Down}
-use Rattle.walter_rules.specs.Allowed.{IsKind, is_refused, starts, does, reads, ends, aborts, conflicts, commits, begins, waits, tells_version, tells_cause, levels_own, is_deciding, is_running, denies, passes, receives, hears_ack, hears_durable, hears_visible, marks_durable, marks_visible, prepares, hears_yes, decides, gives_up, releases, hears_released, sees, upgrades, stops, is_down, boots, IsUpdateCall, of_write, of_add, of_del, IsReadCall, of_value, of_counts, of_count, HasOpen}
-use Rattle.walter_rules.specs.Calls.{own_version, next_seq, next_slow, next_tid, read_updates, level_of_own}
+use Rattle.walter_rules.specs.Allowed.{IsKind, is_refused, starts, does, reads, ends, aborts, conflicts, commits, begins, moves, waits, tells_version, tells_cause, levels_own, is_deciding, is_running, denies, passes, receives, hears_ack, hears_durable, hears_visible, marks_durable, marks_visible, prepares, hears_yes, decides, gives_up, releases, hears_released, sees, upgrades, stops, is_down, boots, IsUpdateCall, of_write, of_add, of_del, of_friend, of_unfriend, IsReadCall, of_value, of_counts, of_count, HasOpen, tells_token}
+use Rattle.walter_rules.specs.Calls.{own_version, next_seq, next_slow, next_tid, read_updates, level_of_own, move_of}
 use Rattle.walter_rules.specs.Conflicts.{cause_of}
 use Rattle.walter_rules.specs.Declarations.{is_declared, are_declared}
 use Rattle.walter_rules.specs.Knowledge.{Knowledge, session_of, vector_of}
 use Rattle.walter_rules.specs.Layouts.{Layout}
-use Rattle.walter_rules.specs.Learning.{starts_after, sessions_after, deciding, recorded, after, lost}
+use Rattle.walter_rules.specs.Learning.{starts_after, sessions_after, updated, deciding, recorded, after, lost}
 use Rattle.walter_rules.specs.Marks.{durable_mark, visible_mark}
 use Rattle.walter_rules.specs.Records.{CanFollow}
-use Rattle.walter_rules.specs.Sessions.{Session, with_update, with_slow, tx_of}
+use Rattle.walter_rules.specs.Sessions.{Session, with_updates, with_slow, tx_of}
 use Rattle.walter_rules.specs.Slow.{Undecided, Dropped, Decided, begun}
 use Rattle.walter_rules.specs.Standing.{Standing, settled, goes_down, comes_up, up_after, knows_after, flight_after}
 use Rattle.walter_rules.specs.Trails.{standing, IsOnly, failure, want, fullness, IsFound, IsRightEntry, AreRight}
+use Rattle.walter_rules.proofs.RuleTests.{asked_is}
 use Rattle.walter_agreement.proofs.Cases.{none_not_some}
-use Rattle.walter_agreement.proofs.Issued.{IsIssued}
+use Rattle.walter_agreement.proofs.Issued.{IsIssued, next_issued, next_not_issued}
+use Rattle.walter_agreement.proofs.Tidy.{IsUnbegun}
 use Rattle.walter_alone.proofs.Alone.{issued_by, IsAlone}
 use Rattle.walter_alone.proofs.Followed.{kind_follows}
-use Rattle.walter_alone.proofs.Kept.{IsKept, kept_at_first, IsPlain, IsNewName, CanBegin, unflown, falls, settles, quiet, closes, changes, starts_one, begins_slow, boots_up, none_flying}
+use Rattle.walter_alone.proofs.SoundSessions.{is_move, is_writable, are_writable, writable_bare}
+use Rattle.walter_alone.proofs.Kept.{IsKept, hands_one, kept_at_first, IsPlain, IsNewName, CanBegin, unflown, issued_down, falls, settles, quiet, closes, changes, starts_one, begins_slow, boots_up, none_flying}
 use Rattle.walter_rules.proofs.Staying.{fault_falls}
 use Rattle.walter_runs.proofs.Steps.{IsStep, stable, flies, unread_step, wants, finds_full, step_of}
 
@@ -117,12 +120,28 @@ failed_falls (Given input) = refl
 failed_falls Stop = refl
 failed_falls Restart = refl
 
--- one update more
-more_declared : (catalog : Catalog) (updates : List Update) (update : Update) → is_declared catalog update ≡ true
-    → are_declared catalog updates ≡ true
-    → are_declared catalog (updates ++ update ∷ []) ≡ true
-more_declared catalog updates update one all = list_all-append (is_declared catalog) updates (update ∷ [])
-    ∙ rw (all, one) refl
+-- some updates more
+more_declared : (catalog : Catalog) (updates more : List Update) → are_writable catalog more ≡ true
+    → are_writable catalog updates ≡ true → are_writable catalog (updates ++ more) ≡ true
+more_declared catalog updates more new all = list_all-append (is_writable catalog) updates more ∙ rw (all, new) refl
+
+-- what a call asks for hands nothing over
+asked_bare : (friends : Option ℕ) (call : Result Request BadFrame) (updates : List Update)
+    → IsUpdateCall friends call updates → list_all (λ u. not (is_move u)) updates ≡ true
+asked_bare friends call updates (of_write oid bytes) = refl
+asked_bare friends call updates (of_add oid id free) = refl
+asked_bare friends call updates (of_del oid id free) = refl
+asked_bare friends call updates (of_friend list a b at) = refl
+asked_bare friends call updates (of_unfriend list a b at) = refl
+
+bare_writable : (catalog : Catalog) (updates : List Update) → list_all (λ u. not (is_move u)) updates ≡ true
+    → are_declared catalog updates ≡ true → are_writable catalog updates ≡ true
+bare_writable catalog [] bare declared = refl
+bare_writable catalog (u ∷ us) bare declared =
+    let here = and_parts (is_declared catalog u) (are_declared catalog us) declared in
+    let stays = and_parts (not (is_move u)) (list_all (λ v. not (is_move v)) us) bare in
+    let rest = bare_writable catalog us stays.1 here.1 in
+    rw (here.0, stays.0, rest) refl
 
 module _ (catalog : Catalog) (i : SiteId) (below : i.0 < catalog.sites) (S : Standing)
     (I : IsKept catalog i S.up S.knows S.flight) where
@@ -177,7 +196,8 @@ module _ (catalog : Catalog) (i : SiteId) (below : i.0 < catalog.sites) (S : Sta
     where
       by : (r : Record) → S.flight ≡ Some r → CanBegin catalog i S.up S.knows S.flight I r
       by (SlowBegin n x) flying = let f = I.tidy.flight n x flying in (f.2, f.3, f.4, I.names.begins n x flying)
-      by (Own seq x) flying = I.names.flies seq x flying
+      by (Own seq x) flying = λ zero_. let f = I.names.flies seq x flying zero_ in
+          (issued_down S.up S.knows x.tid f.0, f.1)
       by rec flying = tt
 
   -- the record of each kind can follow, and a slow commit can begin
@@ -185,6 +205,24 @@ module _ (catalog : Catalog) (i : SiteId) (below : i.0 < catalog.sites) (S : Sta
       → IfSome wrote (CanFollow catalog i S.knows)
   kind_can event wrote outcome kind = kind_follows catalog i S
       (issued_by S.up S.knows) I.learned I.sound I.tidy I.booted event wrote outcome kind
+
+  -- the name that is given next is that of no slow commit, nor of a session
+  next_unbegun : S.up ≡ true → IsUnbegun S.knows.slow (next_tid i S.knows)
+  next_unbegun up m y begun_ same =
+      next_not_issued i (issued_by true S.knows)
+      (subst (λ t. IsIssued (issued_by true S.knows) t) same
+      (subst (λ b. IsIssued (issued_by b S.knows) y.tid) up (I.tidy.named m y begun_).3))
+
+  move_name : S.up ≡ true → (container : ℕ) (to : SiteId)
+      → IsNewName (λ c. session_of S.knows c) S.knows.slow
+      (record { epoch = S.knows.epoch; starts = S.knows.starts + 1 })
+      (Some (Own (next_seq i S.knows) (move_of catalog i S.knows container to)))
+  move_name up container to zero_ = (
+    (next_issued i (issued_by true S.knows), next_unbegun up),
+    λ c s has none same. next_not_issued i (issued_by true S.knows)
+        (subst (λ t. IsIssued (issued_by true S.knows) t) same
+        (subst (λ b. IsIssued (issued_by b S.knows) s.tid) up (I.sound.started c s has).1)),
+  )
 
   kind_begins : (event : Event) (wrote : Option Record) (outcome : Outcome) → IsKind catalog i S event wrote outcome
       → IfSome wrote (CanBegin catalog i S.up S.knows S.flight I)
@@ -196,7 +234,12 @@ module _ (catalog : Catalog) (i : SiteId) (below : i.0 < catalog.sites) (S : Sta
         I.names.open_ client s open_.session open_.is_open,
       )
   kind_begins event wrote outcome (commits client s open_ some local clear) =
-      λ zero_. ((I.sound.started client s open_.session).1, I.tidy.open_ client s open_.session open_.is_open)
+      λ zero_. (
+        issued_down S.up S.knows s.tid (I.sound.started client s open_.session).1,
+        I.tidy.open_ client s open_.session open_.is_open,
+      )
+  kind_begins event wrote outcome (moves client container to may) =
+      λ zero_. (inl (omega arith), next_unbegun may.up)
   kind_begins event wrote outcome (decides p number n tx asked from undecided within said) =
       λ zero_. absurd (let name = I.tidy.named n tx (ap begun undecided) in name.1 (sym name.0 ∙ zero_))
   kind_begins event wrote outcome kind = tt
@@ -204,8 +247,8 @@ module _ (catalog : Catalog) (i : SiteId) (below : i.0 < catalog.sites) (S : Sta
   -- the sessions stay, with a plain record or without one
   stays_quiet : S.up ≡ true → (event : Event) (outcome : Outcome) (wrote : Option Record) → IsPlain wrote
       → IfSome wrote (CanFollow catalog i S.knows)
-      → starts_after outcome S.knows.starts ≡ S.knows.starts
-      → sessions_after event outcome wrote (vector_of catalog
+      → starts_after event outcome S.knows.starts ≡ S.knows.starts
+      → sessions_after catalog.friends event outcome wrote (vector_of catalog
       (recorded catalog i wrote S.knows)) S.knows.sessions ≡ S.knows.sessions
       → IsNewName (λ c. session_of (after catalog i S.knows event outcome wrote) c) S.knows.slow
       (issued_by true S.knows) wrote
@@ -219,7 +262,7 @@ module _ (catalog : Catalog) (i : SiteId) (below : i.0 < catalog.sites) (S : Sta
       → S.up ≡ true → session_of S.knows client ≡ Some s
       → ((x : Tx) (asked : List SiteId) → S.knows.slow s.slow ≡ Undecided x asked → ⊥)
       → IsPlain wrote → IfSome wrote (CanFollow catalog i S.knows)
-      → starts_after outcome S.knows.starts ≡ S.knows.starts
+      → starts_after (Given (Call client call)) outcome S.knows.starts ≡ S.knows.starts
       → ((c : ℕ) → session_of (after catalog i S.knows (Given (Call client call)) outcome wrote) c ≡
       (if nat_eq client c then None else session_of S.knows c))
       → IsNewName (λ c. session_of (after catalog i S.knows (Given (Call client call)) outcome wrote) c) S.knows.slow
@@ -236,28 +279,19 @@ module _ (catalog : Catalog) (i : SiteId) (below : i.0 < catalog.sites) (S : Sta
       → S.knows.slow s.slow ≡ Undecided x asked → ⊥
   open_none client s open_ x asked h = (I.tidy.named s.slow x (ap begun h)).1 open_.is_open
 
-  done_more : (client : ℕ) (call : Result Request BadFrame) (s : Session) (update : Update) → HasOpen S client s
-      → is_declared catalog update ≡ true
-      → ((c : ℕ) → session_of (after catalog i S.knows (Given (Call client call)) (Replied Done) None) c ≡
-      (if nat_eq client c then option_map (with_update update) (session_of S.knows c) else session_of S.knows c))
-      → IsKept catalog i S.up (after catalog i S.knows (Given (Call client call)) (Replied Done) None)
-      (flight_after None None (Replied Done) S.flight)
-  done_more client call s update open_ declared is =
+  done_kept : (client : ℕ) (call : Result Request BadFrame) (s : Session) (updates : List Update)
+      → HasOpen S client s → IsUpdateCall catalog.friends call updates → are_declared catalog updates ≡ true
+      → Then (Given (Call client call)) (Replied Done) None None
+  done_kept client call s updates open_ asks declared =
       back open_.up (Replied Done) None (after catalog i S.knows (Given (Call client call)) (Replied Done) None)
       (changes catalog i S.knows S.flight (at_up open_.up) below (Given (Call client call)) (Replied Done) None client s
-      (with_update update) tt tt refl open_.session open_.is_open
-      (λ z. refl) (λ z. refl) (λ z. refl) (λ z d. more_declared catalog z.updates update declared d) is tt)
-
-  done_kept : (client : ℕ) (call : Result Request BadFrame) (s : Session) (update : Update) → HasOpen S client s
-      → IsUpdateCall call update → is_declared catalog update ≡ true
-      → Then (Given (Call client call)) (Replied Done) None None
-  done_kept client call s update open_ (of_write oid bytes) declared = done_more client (Ok (Write oid bytes)) s
-      (WriteOf oid bytes) open_ declared (λ c. lookup-changed client c
-      (with_update (WriteOf oid bytes)) S.knows.sessions)
-  done_kept client call s update open_ (of_add oid id) declared = done_more client (Ok (SetAdd oid id)) s
-      (Add oid id) open_ declared (λ c. lookup-changed client c (with_update (Add oid id)) S.knows.sessions)
-  done_kept client call s update open_ (of_del oid id) declared = done_more client (Ok (SetDel oid id)) s
-      (Del oid id) open_ declared (λ c. lookup-changed client c (with_update (Del oid id)) S.knows.sessions)
+      (with_updates updates) tt tt refl open_.session open_.is_open
+      (λ z. refl) (λ z. refl) (λ z. refl)
+      (λ z d. more_declared catalog z.updates updates
+      (bare_writable catalog updates (asked_bare catalog.friends call updates asks) declared) d)
+      (λ c. lookup-changed client c (updated catalog.friends call) S.knows.sessions
+      ∙ ap (λ us. if nat_eq client c then option_map (with_updates us) (session_of S.knows c) else
+      session_of S.knows c) (asked_is catalog.friends call updates asks)) tt)
 
   read_kept : (client : ℕ) (call : Result Request BadFrame) (reply : Reply) (updates : List Update) → S.up ≡ true
       → IsReadCall call reply updates
@@ -301,12 +335,12 @@ module _ (catalog : Catalog) (i : SiteId) (below : i.0 < catalog.sites) (S : Sta
       → Then event outcome wrote None
   kind_kept event wrote outcome (is_refused client call refusal) = idle (Given (Call client call))
       (Replied (Refused refusal)) tt
-  kind_kept event wrote outcome (starts client up none) =
+  kind_kept event wrote outcome (starts client call up none asks) =
       back up (Replied (Started (next_tid i S.knows))) None
-      (after catalog i S.knows (Given (Call client (Ok Start))) (Replied (Started (next_tid i S.knows))) None)
-      (starts_one catalog i S.knows S.flight (at_up up) below client none)
-  kind_kept event wrote outcome (does client call s update open_ asks declared) =
-      done_kept client call s update open_ asks declared
+      (after catalog i S.knows (Given (Call client call)) (Replied (Started (next_tid i S.knows))) None)
+      (starts_one catalog i S.knows S.flight (at_up up) below client call none)
+  kind_kept event wrote outcome (does client call s updates open_ asks declared) =
+      done_kept client call s updates open_ asks declared
   kind_kept event wrote outcome (reads client call s reply open_ asks) = read_kept client call reply
       (read_updates S.knows s) open_.up asks
   kind_kept event wrote outcome (ends client s open_ none) =
@@ -324,6 +358,13 @@ module _ (catalog : Catalog) (i : SiteId) (below : i.0 < catalog.sites) (S : Sta
       (kind_can event wrote outcome (commits client s open_ some local clear)) refl
       (λ c. lookup-without client c S.knows.sessions)
       (own_name client s open_)
+  kind_kept event wrote outcome (moves client container to may) =
+      let outcome_ : Outcome = Replied (Committed (own_version i (next_seq i S.knows))) in
+      let rec : Record = Own (next_seq i S.knows) (move_of catalog i S.knows container to) in
+      back may.up outcome_ (Some rec)
+      (after catalog i S.knows (Given (Call client (Ok (Handover container to)))) outcome_ (Some rec))
+      (hands_one catalog i S.knows S.flight (at_up may.up) below client container to outcome_ rec tt
+      (kind_can event wrote outcome (moves client container to may)) refl refl (move_name may.up container to))
   kind_kept event wrote outcome (begins client s open_ some clear) =
       let n : ℕ = next_slow S.knows in
       let rec : Record = SlowBegin n (tx_of (with_slow n s)) in
@@ -351,6 +392,8 @@ module _ (catalog : Catalog) (i : SiteId) (below : i.0 < catalog.sites) (S : Sta
       (Replied (Level Running)) None tt tt refl refl tt
   kind_kept event wrote outcome (denies client tid up here issued none undecided open_) = stays_quiet up
       (Given (Call client (Ok (LevelAsked tid)))) (Replied (Level NotCommitted)) None tt tt refl refl tt
+  kind_kept event wrote outcome (tells_token client up) = stays_quiet up (Given (Call client (Ok Token)))
+      (Replied (TokenIs (vector_of catalog S.knows))) None tt tt refl refl tt
   kind_kept event wrote outcome (passes ev) = idle ev Passed tt
   kind_kept event wrote outcome (receives j number seq tx from next) =
       stays_quiet from.up (Given (Deliver j number (Propagate seq tx))) Taken (Some (Got j seq tx)) tt
@@ -459,11 +502,16 @@ alone_of catalog i S I = record {
   names = I.names;
   own_open = I.learned.own_open;
   owners = I.learned.owners;
-  here = I.learned.here;
+  listing = I.learned.listing;
+  logged = I.learned.logged;
+  homes = I.learned.homes;
+  placed = I.learned.placed;
   asked = I.learned.asked;
+  written = I.learned.written;
   started = I.sound.started;
   distinct = I.sound.distinct;
   snapshots = I.sound.snapshots;
+  bare = λ c s h. writable_bare catalog s.updates (I.sound.declared c s h);
   outside = I.learned.outside;
   stopped = I.stopped;
   booted = I.booted;

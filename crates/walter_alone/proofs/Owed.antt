@@ -1,7 +1,7 @@
 -- A client that is owed the news of a transaction that is gone has no other.
-use Rattle.std.proofs.Common.{◌≡◌, ◌⊎◌, ℕ, nat_eq, Bool, true, false, not, cond, List, [], ◌∷◌, ◌++◌, Option, Some, None, option_map, refl, ap, sym, ◌∙◌, subst, inl, inr, if◌then◌else◌}
+use Rattle.std.proofs.Common.{◌≡◌, ◌⊎◌, ℕ, nat_eq, nat_lt, Bool, true, false, not, ◌&&◌, cond, List, [], ◌∷◌, ◌++◌, Option, Some, None, option_map, refl, ap, sym, ◌∙◌, subst, inl, inr, if◌then◌else◌}
 use Rattle.std.proofs.lemmas.Bool.{eqb-true}
-use Rattle.std.specs.Prelude.{Result, Ok, Err, IfSome}
+use Rattle.std.specs.Prelude.{Result, Ok, Err}
 use Rattle.walter_alone.specs.Owing.{IsOwedAlone}
 use Rattle.walter_base.proofs.ByClient.{turned, absent_head, absent_tail, lookup-changed, lookup-without}
 use Rattle.walter_base.specs.ByClient.{changed, without}
@@ -9,10 +9,11 @@ use Rattle.walter_base.specs.declared.catalog.Catalog.{Catalog}
 use Rattle.walter_base.specs.declared.message.BadFrame.{BadFrame as Bad}
 use Rattle.walter_base.specs.declared.message.Record.{Record}
 use Rattle.walter_base.specs.declared.message.Record.TheVariants.{Own, SlowBegin}
-use Rattle.walter_base.specs.declared.message.Refusal.TheVariants.{Gone, WrongSite, NotIssued}
+use Rattle.walter_base.specs.declared.message.Refusal.TheVariants.{Gone, WrongSite, NotIssued, UnknownContainer, BadTarget, NotHolder}
 use Rattle.walter_base.specs.declared.message.Reply.TheVariants.{Level, Started, Done, Committed, Aborted, Deciding, Ended, Unsure, Refused}
 use Rattle.walter_base.specs.declared.message.Request.{Request}
-use Rattle.walter_base.specs.declared.message.Request.TheVariants.{Level as LevelAsked}
+use Rattle.walter_base.specs.declared.message.Request.TheVariants.{Level as LevelAsked, Handover}
+use Rattle.walter_base.specs.declared.names.ObjId.{ObjId}
 use Rattle.walter_base.specs.declared.names.SiteId.{SiteId}
 use Rattle.walter_base.specs.declared.names.Tid.{Tid}
 use Rattle.walter_base.specs.Names.{same_site}
@@ -23,10 +24,12 @@ use Rattle.walter_rules.specs.declared.event.Event.TheVariants.{Given}
 use Rattle.walter_rules.specs.declared.event.Input.TheVariants.{Call}
 use Rattle.walter_rules.specs.declared.outcome.Outcome.{Outcome}
 use Rattle.walter_rules.specs.declared.outcome.Outcome.TheVariants.{Replied}
-use Rattle.walter_rules.specs.Calls.{call_rule, if_told, down_rule, tells_level, level_of, is_issued, refuses, answers}
-use Rattle.walter_rules.specs.Knowledge.{Knowledge, session_of, vector_of}
+use Rattle.walter_rules.specs.Calls.{call_rule, if_told, down_rule, tells_level, level_of, is_issued, refuses, answers, hands_over, if_free, busy_with}
+use Rattle.walter_rules.specs.Knowledge.{Knowledge, session_of, vector_of, preferred_in}
 use Rattle.walter_rules.specs.Layouts.{Layout, header_of}
-use Rattle.walter_rules.specs.Learning.{sessions_after, opened, closed, done, begun_by, updated, deciding, after, lost, recorded}
+use Rattle.walter_rules.specs.Learning.{sessions_after, opened, closed, done, begun_by, updated, deciding, after, lost, recorded, closed_by}
+use Rattle.walter_rules.specs.Declarations.{is_known}
+use Rattle.walter_rules.specs.Objects.{busy}
 use Rattle.walter_rules.specs.Rule.{rule, rule_where}
 use Rattle.walter_rules.specs.Sessions.{Session, Sessions, session_in}
 use Rattle.walter_rules.specs.Standing.{Standing, settled, stands_after, goes_down, told, owed}
@@ -72,28 +75,32 @@ module _ (c : ℕ) (ss : Sessions) (none : session_in c ss ≡ None) where
   none_closed (Given (Call client call)) = none_without c client ss none
   none_closed event = none
 
-  none_done : (event : Event) → session_in c (done event ss) ≡ None
-  none_done (Given (Call client call)) = none_changed c client (updated call) ss none
-  none_done event = none
+  none_closed_by : (event : Event) → session_in c (closed_by event ss) ≡ None
+  none_closed_by (Given (Call client (Ok (Handover container to)))) = none
+  none_closed_by event = none_closed event
+
+  none_done : (friends : Option ℕ) (event : Event) → session_in c (done friends event ss) ≡ None
+  none_done friends (Given (Call client call)) = none_changed c client (updated friends call) ss none
+  none_done friends event = none
 
   none_begun : (event : Event) (wrote : Option Record) → session_in c (begun_by event wrote ss) ≡ None
   none_begun (Given (Call client call)) wrote = none_changed c client (deciding wrote) ss none
   none_begun event wrote = none
 
   -- but where it is answered Started
-  none_after : (event : Event) (outcome : Outcome) (wrote : Option Record) (snapshot : List ℕ)
+  none_after : (friends : Option ℕ) (event : Event) (outcome : Outcome) (wrote : Option Record) (snapshot : List ℕ)
       → ((call : Result Request Bad) (tid : Tid) → event ≡ Given (Call c call) → outcome ≡ Replied (Started tid) → ⊥)
-      → session_in c (sessions_after event outcome wrote snapshot ss) ≡ None
-  none_after event (Replied (Started tid)) wrote snapshot others =
+      → session_in c (sessions_after friends event outcome wrote snapshot ss) ≡ None
+  none_after friends event (Replied (Started tid)) wrote snapshot others =
       none_opened event (record { tid = tid; snapshot = snapshot; updates = []; slow = 0 })
       (λ call is. others call tid is refl)
-  none_after event (Replied Done) wrote snapshot others = none_done event
-  none_after event (Replied (Committed version)) wrote snapshot others = none_closed event
-  none_after event (Replied (Aborted cause)) wrote snapshot others = none_closed event
-  none_after event (Replied (Deciding tid)) wrote snapshot others = none_begun event wrote
-  none_after event (Replied Ended) wrote snapshot others = none_closed event
-  none_after event (Replied (Unsure tid)) wrote snapshot others = none_closed event
-  none_after event outcome wrote snapshot others = none
+  none_after friends event (Replied Done) wrote snapshot others = none_done friends event
+  none_after friends event (Replied (Committed version)) wrote snapshot others = none_closed_by event
+  none_after friends event (Replied (Aborted cause)) wrote snapshot others = none_closed event
+  none_after friends event (Replied (Deciding tid)) wrote snapshot others = none_begun event wrote
+  none_after friends event (Replied Ended) wrote snapshot others = none_closed event
+  none_after friends event (Replied (Unsure tid)) wrote snapshot others = none_closed_by event
+  none_after friends event outcome wrote snapshot others = none
 
 -- ---- who is owed the news is not answered Started
 
@@ -107,11 +114,35 @@ level_not_started catalog i K asked tid = at (not (same_site asked.site i)) (is_
     at false true is = absurd (cc)
     at false false is = absurd (cc)
 
+handed_not_started : (catalog : Catalog) (i : SiteId) (K : Knowledge) (container : ℕ) (to : SiteId) (tid : Tid)
+    → (hands_over catalog i K container to).outcome ≡ Replied (Started tid) → ⊥
+handed_not_started catalog i K container to tid =
+    at (is_known catalog container) (not (same_site to i) && nat_lt to.0 catalog.sites)
+    (same_site (preferred_in catalog K container) i)
+  where
+    held : (o : Option Tid) (oid : ObjId) → (busy_with oid o).outcome ≡ Replied (Started tid) → ⊥
+    held None oid is = absurd (cc)
+    held (Some owner) oid is = absurd (cc)
+
+    free : (o : Option ObjId) → (if_free catalog i K container to o).outcome ≡ Replied (Started tid) → ⊥
+    free None is = absurd (cc)
+    free (Some oid) is = held (K.owner oid) oid is
+
+    at : (a b c : Bool) → (if a then (if b then (if c then if_free catalog i K container to (busy K container)
+        else refuses (NotHolder (preferred_in catalog K container))) else refuses BadTarget)
+        else refuses UnknownContainer).outcome ≡ Replied (Started tid) → ⊥
+    at true true true is = free (busy K container) is
+    at true true false is = absurd (cc)
+    at true false c is = absurd (cc)
+    at false b c is = absurd (cc)
+
 told_not_started : (catalog : Catalog) (i : SiteId) (K : Knowledge) (call : Result Request Bad) (gone tid : Tid)
     (session : Option Session)
     → (if_told call (Some gone) (call_rule catalog i K call session)).outcome ≡ Replied (Started tid) → ⊥
 told_not_started catalog i K (Err bad) gone tid session is = absurd (cc)
 told_not_started catalog i K (Ok (LevelAsked asked)) gone tid session is = level_not_started catalog i K asked tid is
+told_not_started catalog i K (Ok (Handover container to)) gone tid session is =
+    handed_not_started catalog i K container to tid is
 told_not_started catalog i K (Ok request) gone tid session is = absurd (cc)
 
 down_not_started : (call : Result Request Bad) (tid : Tid) → (down_rule call).outcome ≡ Replied (Started tid) → ⊥
@@ -172,7 +203,7 @@ module _ (catalog : Catalog) (layout : Layout) (i : SiteId) where
       stays (inr none) None is = inl (told_none event came.outcome S.gone c is)
       stays (inr none) (Some tid) is =
           inr
-          (none_after c S.knows.sessions none event came.outcome came.wrote
+          (none_after c S.knows.sessions none catalog.friends event came.outcome came.wrote
           (vector_of catalog (recorded catalog i came.wrote S.knows))
           (λ call tid' is_call started. not_started catalog layout i S c event call came tid tid' is_call comes is started))
 

@@ -1,11 +1,14 @@
 -- What each right entry of a site that is up promises.
-use Rattle.std.proofs.Common.{◌≡◌, ◌+◌, ◌<◌, ℕ, true, ◌&&◌, List, [], ◌∷◌, Some, None, IfSome, Ok, refl, ap, sym, ◌∙◌, subst}
+use Rattle.std.proofs.Common.{◌≡◌, ◌+◌, ◌<◌, ℕ, true, ◌&&◌, List, [], ◌∷◌, length, Some, None, IfSome, Ok, refl, ap, sym, ◌∙◌, subst, inl, inr, if◌then◌else◌}
 use Rattle.std.specs.Prelude.{Option}
+use Rattle.std.proofs.lemmas.Bool.{lt-ltb, eq-eqb}
 use Rattle.std.proofs.lemmas.Option.{same_Some}
 use Rattle.walter_base.specs.declared.catalog.Catalog.{Catalog}
 use Rattle.walter_base.specs.declared.message.Record.{Record}
 use Rattle.walter_base.specs.declared.message.Record.TheVariants.{Own, Got, Seen, Prepared}
-use Rattle.walter_base.specs.declared.message.Request.TheVariants.{Commit}
+use Rattle.walter_base.specs.declared.message.Refusal.TheVariants.{SessionsFull, BadVector}
+use Rattle.walter_base.specs.declared.message.Reply.TheVariants.{Started}
+use Rattle.walter_base.specs.declared.message.Request.TheVariants.{Commit, StartAt}
 use Rattle.walter_base.specs.declared.names.ObjId.{ObjId}
 use Rattle.walter_base.specs.declared.names.SiteId.{SiteId}
 use Rattle.walter_base.specs.declared.names.Tid.{Tid}
@@ -25,9 +28,9 @@ use Rattle.walter_rules.specs.declared.event.Event.TheVariants.{Given, Restart}
 use Rattle.walter_rules.specs.declared.event.Input.{Input}
 use Rattle.walter_rules.specs.declared.event.Input.TheVariants.{Call, Deliver, Advance}
 use Rattle.walter_rules.specs.declared.outcome.Outcome.TheVariants.{Failed, Full, Memory}
-use Rattle.walter_rules.specs.Calls.{Expected, next_seq, if_local, decides, commits_open, commits_by, commits_for, commits_fast, call_rule, if_told}
+use Rattle.walter_rules.specs.Calls.{Expected, answers, refuses, next_tid, next_seq, first_behind, starts_unless, starts_from, starts_at_for, if_local, decides, commits_open, commits_by, commits_for, commits_fast, call_rule, if_told}
 use Rattle.walter_rules.specs.Deliveries.{passes, takes, back, is_peer, is_enabled, advances, if_accepted, answer_over, prepares, prepares_by, if_lockable, if_peer, packet_rule}
-use Rattle.walter_rules.specs.Knowledge.{preferred, session_of}
+use Rattle.walter_rules.specs.Knowledge.{preferred, session_of, Knowledge}
 use Rattle.walter_rules.specs.Layouts.{Layout, header_of, need_in, left_behind, FitsIn}
 use Rattle.walter_rules.specs.Objects.{objects_of, are_local}
 use Rattle.walter_rules.specs.Rule.{rule_where, rule}
@@ -37,8 +40,8 @@ use Rattle.walter_rules.specs.Slow.{Part, Free, Locked, Over}
 use Rattle.walter_rules.specs.Standing.{Standing, settled}
 use Rattle.walter_rules.specs.Trails.{standing, IsPutOut, failure, want, fullness, IsFound, Comes, ruled, met_fault, unread, no_memory, full, IsRightEntry}
 use Rattle.walter_rules.proofs.WrittenObjects.{rising_from}
-use Rattle.walter_alone.specs.Promises.{IsFree, committed, unsure, full as is_refused, no_memory as wants_memory, IsAnswered, IsWritten, is_stable, is_flying, is_full, is_lost, IsAtPeer, IsNext, IsReceived, IsDue, IsSeen, IsAsked, IsSaid, is_said, is_unsaid, IsLocked, is_locked, is_held, IsHindered, IsHinderedAnswer}
-use Rattle.walter_alone.proofs.TestsPass.{all_pass}
+use Rattle.walter_alone.specs.Promises.{IsFree, committed, unsure, full as is_refused, no_memory as wants_memory, IsAnswered, IsCaughtUp, IsStarted, IsWritten, is_stable, is_flying, is_full, is_lost, IsAtPeer, IsNext, IsReceived, IsDue, IsSeen, IsAsked, IsSaid, is_said, is_unsaid, IsLocked, is_locked, is_held, IsHindered, IsHinderedAnswer}
+use Rattle.walter_alone.proofs.TestsPass.{all_pass, none_low}
 
 -- what a restart finds in the journal changes nothing where something is given
 settled_given : (catalog : Catalog) (i : SiteId) (S : Standing) (event : Event) (kept : Option Record) (input : Input)
@@ -49,7 +52,7 @@ settled_given catalog i S event (Some rec) input found is = absurd
     (let restart = found.restart in let e : Given input ≡ Restart = sym is ∙ restart in cc)
 
 -- so an entry at which something is given comes of how the site stood
-given_comes : (catalog : Catalog) (layout : Layout) (i : SiteId) (older : List Entry) (e : Entry) (input : Input)
+pub given_comes : (catalog : Catalog) (layout : Layout) (i : SiteId) (older : List Entry) (e : Entry) (input : Input)
     → IsRightEntry catalog layout i older e → e.event ≡ Given input
     → Comes catalog layout i (standing catalog i older) (Given input) e.came
 given_comes catalog layout i older e input right is =
@@ -151,20 +154,21 @@ module _ (catalog : Catalog) (layout : Layout) (i : SiteId) (S : Standing) (even
   abbrev pub prepare : Input
   prepare = Deliver j asked.number (Prepare n tid asked.start objects)
 
-  prepare_rule : rule (header_of layout) catalog i S (Given prepare) ≡ prepares_by S.knows j n tid asked.start objects (S.knows.part j n)
+  prepare_rule : rule (header_of layout) catalog i S (Given prepare)
+      ≡ prepares_by catalog i S.knows j n tid asked.start objects (S.knows.part j n)
   prepare_rule = peer_rule catalog layout i S came j asked.number (Prepare n tid asked.start objects) asked.at
-      ∙ ap (λ b. if_lockable b S.knows j n tid asked.start objects) asked.lockable
+      ∙ ap (λ b. if_lockable b catalog i S.knows j n tid asked.start objects) asked.regular
 
   prepared_by : Comes catalog layout i S (Given prepare) came → (part : Part) → S.knows.part j n ≡ part
       → IsLocked layout S j n tid objects came
   prepared_by comes Free is =
       is_locked is
       (written catalog layout i S came prepare (Prepared j n tid objects) (back j (Vote n Yes)) tt
-      (prepare_rule ∙ (ap (prepares_by S.knows j n tid asked.start objects) is
+      (prepare_rule ∙ (ap (prepares_by catalog i S.knows j n tid asked.start objects) is
       ∙ ap (prepares S.knows j n tid asked.start objects) (asked.clear is))) comes)
   prepared_by comes (Locked owner held) is =
       is_held owner held is (said catalog layout i S came prepare (back j (Vote n Yes)) tt
-      (prepare_rule ∙ ap (prepares_by S.knows j n tid asked.start objects) is) comes)
+      (prepare_rule ∙ ap (prepares_by catalog i S.knows j n tid asked.start objects) is) comes)
   prepared_by comes Over is = absurd (asked.alive is)
 
 pub entry_locked : (catalog : Catalog) (layout : Layout) (i : SiteId) (older : List Entry) (e : Entry) (j : SiteId) (n : ℕ)
@@ -189,8 +193,8 @@ entry_hindered catalog layout i older e j n start conflict right hindered =
     said catalog layout i S e.came (Deliver j hindered.number (Prepare n tid start objects))
     (back j (Vote n (answer_over S.knows start conflict))) tt
     (peer_rule catalog layout i S e.came j hindered.number (Prepare n tid start objects) hindered.at
-    ∙ (ap (λ b. if_lockable b S.knows j n tid start objects) hindered.lockable
-    ∙ (ap (prepares_by S.knows j n tid start objects) hindered.free
+    ∙ (ap (λ b. if_lockable b catalog i S.knows j n tid start objects) hindered.regular
+    ∙ (ap (prepares_by catalog i S.knows j n tid start objects) hindered.free
     ∙ ap (prepares S.knows j n tid start objects) hindered.met)))
     (given_comes catalog layout i older e (Deliver j hindered.number (Prepare n tid start objects)) right
     hindered.came)
@@ -240,6 +244,43 @@ module _ (catalog : Catalog) (layout : Layout) (i : SiteId) (S : Standing) (even
       is_refused (subst (λ r. left_behind layout S < need_in layout S r) (sym same) low)
       (only.outcome_is ∙ ap (λ r. fullness (Given (Call free.client (Ok Commit))) (need_in layout S r)
       (left_behind layout S)) (sym same))
+
+module _ (catalog : Catalog) (layout : Layout) (i : SiteId) (S : Standing) (event : Event)
+    (caught : IsCaughtUp catalog S event) where
+  abbrev asks : Input
+  asks = Call caught.client (Ok (StartAt caught.token))
+
+  rule_starts : rule (header_of layout) catalog i S (Given asks) ≡ answers (Started (next_tid i S.knows))
+  rule_starts =
+      let token : List ℕ = caught.token in
+      let K : Knowledge = S.knows in
+      ap (λ b. rule_where b (header_of layout) catalog i S asks) caught.up
+      ∙ (ap (λ gone. if_told (Ok (StartAt token)) gone
+      (call_rule catalog i K (Ok (StartAt token)) (session_of K caught.client))) caught.owed
+      ∙ (ap (starts_at_for catalog i K token) caught.none
+      ∙ (ap (λ b. if b then starts_from catalog i K token else refuses SessionsFull)
+      (lt-ltb (length K.sessions) 256 caught.few)
+      ∙ (ap (λ b. if b then starts_unless i K (first_behind catalog K token) else refuses BadVector)
+      (eq-eqb (length token) catalog.sites caught.wide)
+      ∙ ap (starts_unless i K) (none_low catalog K token caught.covered)))))
+
+  starts_then : (came : Came) → Comes catalog layout i S (Given asks) came → IsStarted i S.knows came.outcome
+  starts_then came (ruled fits as_ruled) = inl (as_ruled.outcome ∙ ap (λ (x : Expected). x.outcome) rule_starts)
+  starts_then came (met_fault rec wrote fits only) =
+      absurd (let e = sym wrote ∙ ap (λ (x : Expected). x.wrote) rule_starts in cc)
+  starts_then came (unread restart down only) = absurd (let e = restart in cc)
+  starts_then came (no_memory takes_ only) = inr only.outcome_is
+  starts_then came (full rec wrote low only) =
+      absurd (let e = sym wrote ∙ ap (λ (x : Expected). x.wrote) rule_starts in cc)
+
+-- a transaction that is to start at a token of which as much is committed here
+pub entry_started : (catalog : Catalog) (layout : Layout) (i : SiteId) (older : List Entry) (e : Entry)
+    → IsRightEntry catalog layout i older e → IsCaughtUp catalog (standing catalog i older) e.event
+    → IsStarted i (standing catalog i older).knows e.came.outcome
+entry_started catalog layout i older e right caught =
+    starts_then catalog layout i (standing catalog i older) e.event caught e.came
+    (given_comes catalog layout i older e (asks catalog layout i (standing catalog i older) e.event caught) right
+    caught.asked)
 
 pub entry_answered : (catalog : Catalog) (layout : Layout) (i : SiteId) (older : List Entry) (e : Entry) (s : Session)
     → IsRightEntry catalog layout i older e

@@ -1,12 +1,12 @@
 -- What each right entry of a site that is up promises, by how the site stood before it: of commits that meet no
 -- conflict, and of what its peers send.
-use Rattle.std.specs.Prelude.{◌≡◌, ◌≢◌, ◌+◌, ◌<◌, ◌≤◌, ℕ, true, List, [], Some, None, Ok}
+use Rattle.std.specs.Prelude.{◌≡◌, ◌≢◌, ◌+◌, ◌<◌, ◌≤◌, ◌⊎◌, ℕ, true, List, [], length, Some, None, Ok}
 use Rattle.walter_base.specs.declared.catalog.Catalog.{Catalog}
 use Rattle.walter_base.specs.declared.message.Record.{Record}
 use Rattle.walter_base.specs.declared.message.Record.TheVariants.{Own, Got, Seen, Prepared}
 use Rattle.walter_base.specs.declared.message.Refusal.TheVariants.{JournalFull, Memory as NoMemory}
-use Rattle.walter_base.specs.declared.message.Reply.TheVariants.{Committed, Unsure, Refused}
-use Rattle.walter_base.specs.declared.message.Request.TheVariants.{Commit}
+use Rattle.walter_base.specs.declared.message.Reply.TheVariants.{Started, Committed, Unsure, Refused}
+use Rattle.walter_base.specs.declared.message.Request.TheVariants.{Commit, StartAt}
 use Rattle.walter_base.specs.declared.names.ObjId.{ObjId}
 use Rattle.walter_base.specs.declared.names.SiteId.{SiteId}
 use Rattle.walter_base.specs.declared.names.Tid.{Tid}
@@ -20,12 +20,12 @@ use Rattle.walter_rules.specs.declared.event.Event.TheVariants.{Given}
 use Rattle.walter_rules.specs.declared.event.Input.TheVariants.{Call, Deliver, Advance}
 use Rattle.walter_rules.specs.declared.outcome.Outcome.{Outcome}
 use Rattle.walter_rules.specs.declared.outcome.Outcome.TheVariants.{Replied, Taken, Passed, Failed, Full, Memory}
-use Rattle.walter_rules.specs.Allowed.{HasOpen, AreLocal}
-use Rattle.walter_rules.specs.Calls.{next_seq, own_version}
-use Rattle.walter_rules.specs.Conflicts.{first_conflict}
-use Rattle.walter_rules.specs.Declarations.{are_lockable}
+use Rattle.walter_rules.specs.Allowed.{HasOpen, AreLocal, Covers}
+use Rattle.walter_rules.specs.Calls.{next_seq, own_version, next_tid}
+use Rattle.walter_rules.specs.Conflicts.{first_conflict, first_there}
+use Rattle.walter_rules.specs.Declarations.{are_regular}
 use Rattle.walter_rules.specs.Deliveries.{is_peer, accepts, is_enabled, back, answer_over}
-use Rattle.walter_rules.specs.Knowledge.{Knowledge}
+use Rattle.walter_rules.specs.Knowledge.{Knowledge, session_of}
 use Rattle.walter_rules.specs.Layouts.{Layout, need_in, left_behind, FitsIn}
 use Rattle.walter_rules.specs.Objects.{objects_at}
 use Rattle.walter_rules.specs.Sending.{Send}
@@ -57,6 +57,24 @@ pub data IsCommitAnswer (i : SiteId) (K : Knowledge) (s : Session) (need left : 
 abbrev pub IsAnswered : Layout → SiteId → Standing → Session → Outcome → Type 0
 IsAnswered layout i S s outcome =
     IsCommitAnswer i S.knows s (need_in layout S (Own (next_seq i S.knows) (tx_of s))) (left_behind layout S) outcome
+
+-- a client without a transaction, that isn't owed a Gone, asks for one at a token, at a site that is up and has a place
+-- for one more; as much is committed here as the token sees of each site of the catalog
+pub record IsCaughtUp (catalog : Catalog) (S : Standing) (event : Event) : Type 0 where
+  pub client : ℕ
+  pub token : List ℕ
+  pub asked : event ≡ Given (Call client (Ok (StartAt token)))
+  pub up : S.up ≡ true
+  pub owed : S.gone client ≡ None
+  pub none : session_of S.knows client ≡ None
+  pub few : length S.knows.sessions < 256
+  pub wide : length token ≡ catalog.sites
+  pub covered : Covers S.knows.committed token
+
+-- it is started, or memory runs out
+abbrev pub IsStarted : SiteId → Knowledge → Outcome → Type 0
+IsStarted i K outcome =
+    (outcome ≡ Replied (Started (next_tid i K))) ⊎ (outcome ≡ Replied (Refused NoMemory))
 
 -- This record is to be journaled, and this to be put out. Where the record fits, it is stable, and the packets are
 -- put out or counted as lost; or the disk fails, and it is in flight. Where it doesn't fit, the outcome says so; and
@@ -100,17 +118,17 @@ abbrev pub IsSeen : Layout → Standing → SiteId → Came → Type 0
 IsSeen layout S j came = IsWritten layout S (Seen j (S.knows.committed j + 1))
     (back j (Visible (S.knows.committed j + 1))) came
 
--- a peer asks for the locks of its slow commit, which isn't over here; the objects can be locked, and where they
--- aren't locked for it yet, none meets a conflict
+-- a peer asks for the locks of its slow commit, which isn't over here; the objects are regular, and where they aren't
+-- locked for it yet, they are preferred here and none meets a conflict
 pub record IsAsked (catalog : Catalog) (i : SiteId) (S : Standing) (event : Event) (j : SiteId) (n : ℕ) (tid : Tid)
     (objects : List ObjId) : Type 0 where
   pub number : ℕ
   pub start : List ℕ
   pub came : event ≡ Given (Deliver j number (Prepare n tid start objects))
   pub at : IsAtPeer catalog i S j
-  pub lockable : are_lockable catalog S.knows i objects ≡ true
+  pub regular : are_regular catalog objects ≡ true
   pub alive : S.knows.part j n ≢ Over
-  pub clear : S.knows.part j n ≡ Free → first_conflict S.knows start objects ≡ None
+  pub clear : S.knows.part j n ≡ Free → first_there catalog i S.knows start objects ≡ None
 
 -- an answer that is said, or counted as lost; or memory runs out
 pub data IsSaid (S : Standing) (sends : List Send) (came : Came) : Type 0 where
@@ -125,7 +143,7 @@ pub data IsLocked (layout : Layout) (S : Standing) (j : SiteId) (n : ℕ) (tid :
   is_held : (owner : Tid) (held : List ObjId) → S.knows.part j n ≡ Locked owner held
       → IsSaid S (back j (Vote n Yes)) came → IsLocked layout S j n tid objects came
 
--- a peer asks for the locks of its slow commit, of which there is nothing here; the objects can be locked, and this is
+-- a peer asks for the locks of its slow commit, of which there is nothing here; the objects are regular, and this is
 -- the first conflict that they meet
 pub record IsHindered (catalog : Catalog) (i : SiteId) (S : Standing) (event : Event) (j : SiteId) (n : ℕ)
     (start : List ℕ) (conflict : Conflict) : Type 0 where
@@ -134,11 +152,11 @@ pub record IsHindered (catalog : Catalog) (i : SiteId) (S : Standing) (event : E
   pub objects : List ObjId
   pub came : event ≡ Given (Deliver j number (Prepare n tid start objects))
   pub at : IsAtPeer catalog i S j
-  pub lockable : are_lockable catalog S.knows i objects ≡ true
+  pub regular : are_regular catalog objects ≡ true
   pub free : S.knows.part j n ≡ Free
-  pub met : first_conflict S.knows start objects ≡ Some conflict
+  pub met : first_there catalog i S.knows start objects ≡ Some conflict
 
--- the peer is told NO over a version that is outside the snapshot, and over a lock whose owner is known to be unseen
--- by it; over another lock it is told to ask again
+-- the peer is told NO over an object that isn't preferred here, over a version that is outside the snapshot, and over a
+-- lock whose owner is known to be unseen by it; over another lock it is told to ask again
 abbrev pub IsHinderedAnswer : Standing → SiteId → ℕ → List ℕ → Conflict → Came → Type 0
 IsHinderedAnswer S j n start conflict came = IsSaid S (back j (Vote n (answer_over S.knows start conflict))) came

@@ -12,7 +12,7 @@ ghost use Rattle.walter_rules.specs.Sessions.{Session};
 ghost use Rattle.walter_rules.specs.Trails.{standing, IsRightEntry, AreRight};
 ghost use Rattle.walter_alone.specs.Journaled.{IsJournaled};
 ghost use Rattle.walter_alone.specs.Owing.{IsOwedAlone};
-ghost use Rattle.walter_alone.specs.Promises.{IsFree, IsAnswered, IsNext, IsReceived, IsDue, IsSeen, IsAsked, IsLocked, IsHindered, IsHinderedAnswer};
+ghost use Rattle.walter_alone.specs.Promises.{IsFree, IsAnswered, IsCaughtUp, IsStarted, IsNext, IsReceived, IsDue, IsSeen, IsAsked, IsLocked, IsHindered, IsHinderedAnswer};
 
 /// After each entry of a right trail what the site knows, but for its clients' transactions and what its peers have
 /// said, is what its records tell, each of which can follow those before it. So a restart, which goes by the records,
@@ -25,12 +25,16 @@ pub fn a_restart_keeps_what_is_journaled()
 /// At a site that is up nothing is refused without a reason. A commit whose objects are all preferred here, and that
 /// meets no conflict, gives up only for want of memory or of place in the journal. So it is with a commit that a peer
 /// sends and that is the next of that peer, with one that can be committed here, and with the locks that a slow
-/// commit of a peer asks for. Where these meet a conflict, the peer is told NO only over a version outside its snapshot,
-/// or over a lock whose owner is known to be outside.
+/// commit of a peer asks for. Where these meet a conflict, the peer is told NO only over an object that isn't preferred
+/// here, over a version outside its snapshot, or over a lock whose owner is known to be outside. A transaction starts
+/// at a token where all that the token sees is committed here, or memory runs out.
 pub fn right_trails_keep_promises()
     ensures committed { (catalog : Catalog) (layout : Layout) (i : SiteId) (older : List Entry) (e : Entry)
         (s : Session) → IsRightEntry catalog layout i older e → IsFree catalog i (standing catalog i older) e.event s
         → IsAnswered layout i (standing catalog i older) s e.came.outcome }
+    ensures started { (catalog : Catalog) (layout : Layout) (i : SiteId) (older : List Entry) (e : Entry)
+        → IsRightEntry catalog layout i older e → IsCaughtUp catalog (standing catalog i older) e.event
+        → IsStarted i (standing catalog i older).knows e.came.outcome }
     ensures received { (catalog : Catalog) (layout : Layout) (i : SiteId) (older : List Entry) (e : Entry) (j : SiteId)
         (seq : ℕ) (tx : Tx)
         → IsRightEntry catalog layout i older e → IsNext catalog i (standing catalog i older) e.event j seq tx

@@ -5,3 +5,4 @@ pub mod ValuesFrom
 pub mod SetCounts
 pub mod Counted
 pub mod ByClient
+pub mod Friends

@@ -1,5 +1,5 @@
 -- The map of a list whose numbers rise, made one entry after another.
-use Rattle.std.proofs.Common.{◌≡◌, ℕ, zero, suc, ◌+◌, ◌<◌, ◌≤◌, List, [], ◌∷◌, ◌++◌, length, map, take, get_or, Option, Some, None, refl, ap, ◌∙◌, subst, arith, slice_get, inl, inr}
+use Rattle.std.proofs.Common.{◌≡◌, ℕ, zero, suc, ◌+◌, ◌<◌, ◌≤◌, List, [], ◌∷◌, ◌++◌, length, map, take, get_or, Option, Some, None, refl, ap, sym, ◌∙◌, subst, arith, slice_get, inl, inr}
 use Rattle.std.specs.Ordering.{nat_cmp}
 use Rattle.std.proofs.lemmas.Bool.{cases_lt}
 use Rattle.std.proofs.lemmas.Bool.Decides.{nat_tests}
@@ -15,6 +15,21 @@ absent [] k below = refl
 absent (item ∷ items) k below =
     let first : item.0 < k = below 0 item refl in
     let others : find nat_cmp k (map entry_of items) ≡ None = absent items k (λ j other at. below (suc j) other at) in
+    grind (arith, nat_tests, first, others)
+
+-- where all before it have lower numbers, an item is found by its number
+pub found : (items : List Item) (place : ℕ) (item : Item)
+    → ((j : ℕ) (other : Item) → j < place → slice_get items j ≡ Some other → other.0 < item.0)
+    → slice_get items place ≡ Some item → find nat_cmp item.0 (map entry_of items) ≡ Some (entry_of item).1
+found [] place item below at = absurd cc
+found (x ∷ items) zero item below at =
+    let same : x ≡ item = cc in
+    subst (λ z. find nat_cmp item.0 (map entry_of (z ∷ items)) ≡ Some (entry_of item).1) (sym same)
+    (grind (arith, nat_tests))
+found (x ∷ items) (suc place) item below at =
+    let first : x.0 < item.0 = below 0 x (omega arith) refl in
+    let others : find nat_cmp item.0 (map entry_of items) ≡ Some (entry_of item).1 =
+    found items place item (λ j other l is. below (suc j) other (omega (arith, l)) is) at in
     grind (arith, nat_tests, first, others)
 
 -- one more container, of a number above all others

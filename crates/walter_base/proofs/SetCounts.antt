@@ -5,7 +5,7 @@ use Rattle.std.proofs.lemmas.Bool.{eqb-true, cases_Bool}
 use Rattle.std.proofs.lemmas.List.Elements.{Contains-append_left, Contains-append_right, Contains-get_or, All-contains}
 use Rattle.walter_base.specs.declared.names.ObjId.{ObjId}
 use Rattle.walter_base.specs.declared.update.Update.{Update}
-use Rattle.walter_base.specs.declared.update.Update.TheVariants.{Write, Add, Del}
+use Rattle.walter_base.specs.declared.update.Update.TheVariants.{Write, Add, Del, Move}
 use Rattle.walter_base.specs.Names.{same_object}
 use Rattle.walter_base.specs.Values.{count_of, adds, takes, AreCounts}
 use Rattle.walter_base.specs.Counting.{IsCountOf, IsListed}
@@ -33,6 +33,10 @@ named_or_untouched : (oid : ObjId) (id : ℕ) (updates : List Update)
     → Contains (flat_map (ids_named oid) updates) id ⊎ IsUntouched oid id updates
 named_or_untouched oid id [] = inr (record { none_added = refl; none_taken = refl })
 named_or_untouched oid id (Write at bytes ∷ us) = elim (named_or_untouched oid id us) [
+  | inl named ↦ inl named
+  | inr none ↦ inr (record { none_added = none.none_added; none_taken = none.none_taken })
+]
+named_or_untouched oid id (Move container to ∷ us) = elim (named_or_untouched oid id us) [
   | inl named ↦ inl named
   | inr none ↦ inr (record { none_added = none.none_added; none_taken = none.none_taken })
 ]

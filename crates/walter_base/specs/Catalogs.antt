@@ -1,8 +1,9 @@
 -- Which lists of containers make a catalog, and the finite map that they make.
-use Rattle.std.specs.Prelude.{◌≡◌, ◌+◌, ◌<◌, ◌≤◌, ℕ, List, map, length, slice_get, Some}
+use Rattle.std.specs.Prelude.{◌≡◌, ◌+◌, ◌<◌, ◌≤◌, ℕ, List, map, length, slice_get, Some, Contains}
 use Rattle.std.specs.Ordering.{nat_cmp}
 use Rattle.std.specs.FinMap.{FinMap, from_entries}
 use Rattle.walter_base.specs.declared.names.Kind.{Kind}
+use Rattle.walter_base.specs.declared.names.Kind.TheVariants.{Cset}
 use Rattle.walter_base.specs.declared.names.SiteId.{SiteId}
 use Rattle.walter_base.specs.declared.containers.Container.{Container}
 use Rattle.walter_base.specs.declared.catalog.CatalogFault.{CatalogFault}
@@ -18,6 +19,10 @@ entry_of item = (item.0, record { kind = item.1; preferred = item.2 })
 -- the finite map from each number to its container
 abbrev pub containers_of : List Item → FinMap nat_cmp Container
 containers_of items = from_entries (map entry_of items)
+
+-- a container of sets has the number
+abbrev pub IsOfSets : List Item → ℕ → Type 0
+IsOfSets items number = (preferred : SiteId) × Contains items (number, Cset, preferred)
 
 -- the item at the place is wrong: one too many, a number that doesn't rise, or a site that isn't there
 pub data IsWrong (sites : ℕ) (items : List Item) (place : ℕ) : Type 0 where

@@ -6,6 +6,7 @@ pub mod Catalogs
 pub mod Values
 pub mod Sizes
 pub mod Counting
+pub mod Friends
 pub mod Conflicts
 pub mod Sending
 pub mod ByClient

@@ -10,12 +10,12 @@ use Rattle.walter_base.specs.declared.packet.Packet.{Packet}
 use Rattle.walter_base.specs.declared.packet.Packet.TheVariants.{Propagate, Ack, Dsmark, Visible, Prepare, Vote, Release, Released as ReleasedSaid}
 use Rattle.walter_base.specs.declared.packet.Answer.TheVariants.{Yes, No, Later}
 use Rattle.walter_base.specs.declared.transaction.Conflict.{Conflict}
-use Rattle.walter_base.specs.declared.transaction.Conflict.TheVariants.{Modified, Locked, Dead}
+use Rattle.walter_base.specs.declared.transaction.Conflict.TheVariants.{Modified, Locked, Dead, Moving}
 use Rattle.walter_base.specs.declared.message.Reply.{Reply}
-use Rattle.walter_base.specs.declared.message.Reply.TheVariants.{Value, Set}
+use Rattle.walter_base.specs.declared.message.Reply.TheVariants.{Value, Set, Token}
 use Rattle.walter_base.specs.declared.transaction.Tx.{Tx}
 use Rattle.walter_base.specs.declared.update.Update.{Update}
-use Rattle.walter_base.specs.declared.update.Update.TheVariants.{Write, Add, Del}
+use Rattle.walter_base.specs.declared.update.Update.TheVariants.{Write, Add, Del, Move}
 use Rattle.walter_base.specs.Names.{AreRising}
 use Rattle.walter_base.specs.Vectors.{most_sites}
 
@@ -23,6 +23,7 @@ abbrev pub size_of_update : Update → ℕ
 size_of_update (Write oid bytes) = 17 + length bytes
 size_of_update (Add oid id) = 21
 size_of_update (Del oid id) = 21
+size_of_update (Move container to) = 6
 
 -- 87 bytes stand before the updates
 abbrev pub size_of_updates : List Update → ℕ
@@ -61,6 +62,7 @@ abbrev pub size_of_conflict : Conflict → ℕ
 size_of_conflict (Modified oid version) = 22
 size_of_conflict (Locked oid owner) = 26
 size_of_conflict Dead = 1
+size_of_conflict (Moving oid) = 13
 
 abbrev pub size_of_packet : Packet → ℕ
 size_of_packet (Propagate seq tx) = 9 + size_in Second tx
@@ -79,6 +81,7 @@ abbrev pub HasShortValue : Update → Type 0
 HasShortValue (Write oid bytes) = length bytes ≤ 4096
 HasShortValue (Add oid id) = Unit {0}
 HasShortValue (Del oid id) = Unit {0}
+HasShortValue (Move container to) = Unit {0}
 
 -- at most 256 updates, with short values, that are spelled in at most 60,000 bytes
 pub record AreSmall (updates : List Update) : Type 0 where
@@ -122,8 +125,9 @@ CanBeSent (Vote slow answer) = Unit {0}
 CanBeSent (Release slow) = Unit {0}
 CanBeSent (ReleasedSaid slow) = Unit {0}
 
--- the value in a reply is short, and so are the counts
+-- the value in a reply is short, and so are the counts and the token
 abbrev pub IsShortReply : Reply → Type 0
 IsShortReply (Value (Some bytes)) = length bytes ≤ 4096
 IsShortReply (Set counts) = length counts ≤ 4095
+IsShortReply (Token token) = length token ≤ most_sites
 IsShortReply reply = Unit {0}

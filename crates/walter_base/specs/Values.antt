@@ -3,21 +3,45 @@
 use Rattle.std.specs.Prelude.{◌≡◌, ◌≢◌, ◌↔◌, ◌-ℤ◌, ◌<◌, ℕ, ℤ, pos, Bool, false, not, ◌&&◌, nat_eq, nat_lt, List, [], ◌∷◌, Option, Some, None, Contains, count_by, filter, flat_map, map, AllPairs, if◌then◌else◌}
 use Rattle.std.specs.Ordering.{int_eq}
 use Rattle.walter_base.specs.declared.names.ObjId.{ObjId}
+use Rattle.walter_base.specs.declared.names.SiteId.{SiteId}
 use Rattle.walter_base.specs.declared.update.Update.{Update}
-use Rattle.walter_base.specs.declared.update.Update.TheVariants.{Write, Add, Del}
+use Rattle.walter_base.specs.declared.update.Update.TheVariants.{Write, Add, Del, Move}
 use Rattle.walter_base.specs.Names.{same_object}
 
--- the object that an update changes
-abbrev pub object_of : Update → ObjId
-object_of (Write oid bytes) = oid
-object_of (Add oid id) = oid
-object_of (Del oid id) = oid
+-- the object that an update changes, where it changes one
+abbrev pub object_of : Update → Option ObjId
+object_of (Write oid bytes) = Some oid
+object_of (Add oid id) = Some oid
+object_of (Del oid id) = Some oid
+object_of (Move container to) = None
+
+-- the container that an update speaks of
+abbrev pub container_of : Update → ℕ
+container_of (Write oid bytes) = oid.container
+container_of (Add oid id) = oid.container
+container_of (Del oid id) = oid.container
+container_of (Move container to) = container
+
+-- a container that is handed to a site
+abbrev pub Handed : Type 0
+Handed = ℕ × SiteId
+
+-- the containers that an update hands over, and those that a list of updates does, in order
+abbrev pub moved : Update → List Handed
+moved (Write oid bytes) = []
+moved (Add oid id) = []
+moved (Del oid id) = []
+moved (Move container to) = (container, to) ∷ []
+
+abbrev pub moves_of : List Update → List Handed
+moves_of updates = flat_map moved updates
 
 -- what a regular object holds after an update, that held this before
 abbrev pub held_after : ObjId → Option (List ℕ) → Update → Option (List ℕ)
 held_after oid held (Write at bytes) = if same_object at oid then Some bytes else held
 held_after oid held (Add at id) = held
 held_after oid held (Del at id) = held
+held_after oid held (Move container to) = held
 
 abbrev pub value_from : Option (List ℕ) → ObjId → List Update → Option (List ℕ)
 value_from held oid [] = held
@@ -32,11 +56,13 @@ abbrev pub adds : ObjId → ℕ → Update → Bool
 adds oid id (Write at bytes) = false
 adds oid id (Add at name) = same_object at oid && nat_eq name id
 adds oid id (Del at name) = false
+adds oid id (Move container to) = false
 
 abbrev pub takes : ObjId → ℕ → Update → Bool
 takes oid id (Write at bytes) = false
 takes oid id (Add at name) = false
 takes oid id (Del at name) = same_object at oid && nat_eq name id
+takes oid id (Move container to) = false
 
 -- the count of an id in a set: how often it was added, less how often it was taken away
 abbrev pub count_of : ObjId → ℕ → List Update → ℤ
@@ -52,6 +78,7 @@ abbrev pub ids_named : ObjId → Update → List ℕ
 ids_named oid (Write at bytes) = []
 ids_named oid (Add at id) = if same_object at oid then id ∷ [] else []
 ids_named oid (Del at id) = if same_object at oid then id ∷ [] else []
+ids_named oid (Move container to) = []
 
 -- rising numbers with one more
 abbrev pub with_number : ℕ → List ℕ → List ℕ
@@ -72,6 +99,7 @@ abbrev pub written : Update → List ObjId
 written (Write oid bytes) = oid ∷ []
 written (Add oid id) = []
 written (Del oid id) = []
+written (Move container to) = []
 
 -- the regular objects written, each as often as it was
 abbrev pub write_set : List Update → List ObjId

@@ -1,7 +1,7 @@
 //! The catalog: how many sites there are, how many of them may be lost, and the containers.
-ghost use Rattle.std.specs.Prelude.{◌≡◌, ◌<◌, ◌≤◌, ℕ, Some, OnOk, IfOk, IfErr, option_map};
+ghost use Rattle.std.specs.Prelude.{◌≡◌, ◌<◌, ◌≤◌, ℕ, Some, IfSome, OnOk, IfOk, IfErr, option_map};
 ghost use Rattle.std.specs.FinMap as map;
-ghost use Rattle.walter_base.specs.Catalogs.{containers_of, AreRight, IsBuildFault};
+ghost use Rattle.walter_base.specs.Catalogs.{containers_of, AreRight, IsOfSets, IsBuildFault};
 ghost use Rattle.walter_base.specs.Vectors.{most_sites};
 
 use crate::containers::{Container, Containers};
@@ -21,28 +21,34 @@ pub enum CatalogFault {
     NoMemory,
 }
 
-/// The number of sites, the number of sites that may be lost without losing what is durable, and the containers.
+/// The number of sites, the number of sites that may be lost without losing what is durable, the containers, and the
+/// container of the friend lists, if there is one.
 #[derive(Debug, Drop)]
 pub struct Catalog {
     pub sites: u8,
     pub tolerated: u8,
     pub containers: Containers,
+    pub friends: Option<u32>,
 }
 
 impl Catalog {
-    /// The catalog of a list of containers, each with its number, its kind and its preferred site.
+    /// The catalog of a list of containers, each with its number, its kind and its preferred site. Friend lists are the
+    /// sets of one of them, if there are any.
     pub fn build(
         alloc: Global,
         sites: u8,
         tolerated: u8,
         items: &[(u32, Kind, SiteId)],
+        friends: Option<u32>,
     ) -> Result<Catalog, CatalogFault>
         requires some { 0 < sites }
         requires most { sites ≤ most_sites }
         requires fewer { tolerated < sites }
+        requires sets { IfSome friends (IsOfSets items.now) }
         ensures sites { IfOk result (λ catalog. catalog.sites ≡ sites) }
         ensures tolerated { IfOk result (λ catalog. catalog.tolerated ≡ tolerated) }
         ensures containers { IfOk result (λ catalog. catalog.containers ≡ containers_of items.now) }
+        ensures friends { IfOk result (λ catalog. catalog.friends ≡ friends) }
         ensures right { OnOk result (AreRight sites items.now) }
         ensures fault { IfErr result (IsBuildFault sites items.now) }
     {
@@ -62,6 +68,7 @@ impl Catalog {
             sites,
             tolerated,
             containers,
+            friends,
         })
     }
 
@@ -82,6 +89,13 @@ impl Catalog {
             .get(oid.container)
             .map(|container| container.preferred)
     }
+
+    /// The container of the friend lists, if there is one.
+    pub fn friends(&self) -> Option<u32>
+        ensures { result ≡ self.now.friends }
+    {
+        self.friends
+    }
 }
 
 impl Clone for Catalog {
@@ -92,6 +106,7 @@ impl Clone for Catalog {
             sites: self.sites,
             tolerated: self.tolerated,
             containers: self.containers.clone()?,
+            friends: self.friends,
         })
     }
 }

@@ -5,6 +5,7 @@ use crate::counts::Counts;
 use crate::lists::Objects;
 use crate::names::{ObjId, SiteId, Tid, Version};
 use crate::shared_bytes::SharedBytes;
+use crate::snapshot::Snapshot;
 use crate::transaction::{Cause, Tx};
 use std::alloc::AllocError;
 use thiserror::Error;
@@ -32,6 +33,16 @@ pub enum Request {
     Abort,
     /// How far a transaction has come.
     Level(Tid),
+    /// The container is to be preferred at the site.
+    Handover(u32, SiteId),
+    /// A new transaction, whose snapshot sees at least what the token does.
+    StartAt(Snapshot),
+    /// What is committed at the site, as a token.
+    Token,
+    /// Two persons become friends: each is once more in the friend list of the other.
+    Befriend(u64, u64),
+    /// Each is once less in the friend list of the other.
+    Unfriend(u64, u64),
 }
 
 /// A client's frame that spells no request.
@@ -60,6 +71,11 @@ impl Clone for Request {
             Request::Commit => Ok(Request::Commit),
             Request::Abort => Ok(Request::Abort),
             Request::Level(tid) => Ok(Request::Level(*tid)),
+            Request::Handover(container, to) => Ok(Request::Handover(*container, *to)),
+            Request::StartAt(token) => Ok(Request::StartAt(token.clone()?)),
+            Request::Token => Ok(Request::Token),
+            Request::Befriend(a, b) => Ok(Request::Befriend(*a, *b)),
+            Request::Unfriend(a, b) => Ok(Request::Unfriend(*a, *b)),
         }
     }
 }
@@ -89,6 +105,8 @@ pub enum Reply {
     Ended,
     /// The disk failed while the transaction was journaled: it is committed or not, and `Level` tells later which.
     Unsure(Tid),
+    /// How many transactions of each site are committed here.
+    Token(Snapshot),
     /// The request is refused, and the site is as before.
     Refused(Refusal),
 }
@@ -110,6 +128,7 @@ impl Clone for Reply {
             Reply::Level(level) => Ok(Reply::Level(*level)),
             Reply::Ended => Ok(Reply::Ended),
             Reply::Unsure(tid) => Ok(Reply::Unsure(*tid)),
+            Reply::Token(token) => Ok(Reply::Token(token.clone()?)),
             Reply::Refused(refusal) => Ok(Reply::Refused(*refusal)),
         }
     }
@@ -165,6 +184,22 @@ pub enum Refusal {
     WrongSite,
     /// No transaction of this name was started.
     NotIssued,
+    /// The container is preferred at this other site.
+    NotHolder { site: SiteId },
+    /// An object of the container is locked: the first one, and its owner.
+    Busy { oid: ObjId, owner: Tid },
+    /// The container can't be handed to that site.
+    BadTarget,
+    /// The token sees more of this site than is committed here, which is so much.
+    Behind { site: SiteId, have: u64 },
+    /// The token is of another number of sites.
+    BadVector,
+    /// The set is a friend list, which is changed together with another one alone.
+    Reserved,
+    /// The two persons are one.
+    SamePerson,
+    /// There are no friend lists.
+    NoFriends,
 }
 
 /// What a site journals.

@@ -49,6 +49,8 @@ pub enum Conflict {
     Locked { oid: ObjId, owner: Tid },
     /// The slow commit is over.
     Dead,
+    /// The object isn't preferred at the site that was asked.
+    Moving { oid: ObjId },
 }
 
 /// Why a transaction ended as aborted.
@@ -60,4 +62,6 @@ pub enum Cause {
     Locked { oid: ObjId, owner: Tid },
     /// Its caller asked for it.
     Asked,
+    /// The object wasn't preferred at the site that was asked.
+    Moving { oid: ObjId },
 }

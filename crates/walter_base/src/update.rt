@@ -3,7 +3,7 @@ ghost use Rattle.std.specs.Prelude.{◌≡◌, ◌<◌, ◌^◌, IfOk};
 ghost use Rattle.walter_base.specs.Sizes.{size_of_update, size_of_updates};
 ghost use Rattle.walter_base.specs.Values.{object_of};
 
-use crate::names::{ObjId, Version};
+use crate::names::{ObjId, SiteId, Version};
 use crate::shared_bytes::SharedBytes;
 use std::alloc::{AllocError, Global};
 use std::marker::Model;
@@ -18,15 +18,18 @@ pub enum Update {
     Add(ObjId, u64),
     /// The count falls by one.
     Del(ObjId, u64),
+    /// The container is preferred at the site from here on.
+    Move(u32, SiteId),
 }
 
 impl Update {
-    /// The object that the update changes.
-    pub fn object(&self) -> ObjId
+    /// The object that the update changes, where it changes one.
+    pub fn object(&self) -> Option<ObjId>
         ensures { result ≡ object_of self.now }
     {
         match self {
-            Update::Write(oid, _) | Update::Add(oid, _) | Update::Del(oid, _) => *oid,
+            Update::Write(oid, _) | Update::Add(oid, _) | Update::Del(oid, _) => Some(*oid),
+            Update::Move(_, _) => None,
         }
     }
 
@@ -38,6 +41,7 @@ impl Update {
         match self {
             Update::Write(_, bytes) => 17 + bytes.len() as u64,
             Update::Add(_, _) | Update::Del(_, _) => 21,
+            Update::Move(_, _) => 6,
         }
     }
 }
@@ -50,6 +54,7 @@ impl Clone for Update {
             Update::Write(oid, bytes) => Ok(Update::Write(*oid, bytes.clone()?)),
             Update::Add(oid, id) => Ok(Update::Add(*oid, *id)),
             Update::Del(oid, id) => Ok(Update::Del(*oid, *id)),
+            Update::Move(container, to) => Ok(Update::Move(*container, *to)),
         }
     }
 }

@@ -10,7 +10,7 @@ use Rattle.walter_base.specs.declared.message.Request.{Request}
 use Rattle.walter_conn.specs.Calls.{Incoming, Answers, TakesCall, IsEnded, before, fault, cut}
 use Rattle.walter_conn.specs.Connections.{source_of, sink_of}
 use Rattle.walter_conn.specs.Frames.{frame, Call}
-use Rattle.walter_request.specs.Requests.{SpellsWrite}
+use Rattle.walter_request.specs.Requests.{NeedsMemory}
 use Rattle.walter_conn.specs.Outputs.{IsLost}
 use Rattle.walter_conn.specs.Outputs as outputs
 use Rattle.walter_conn.specs.Sequences.{EndCut}
@@ -140,7 +140,7 @@ calls_same client other entries e call apart is =
     ∙ append-nil (calls_of client entries))
 
 -- what is held is the frame of a Write, and stands in front of what the source has left
-pub awaits_write : (held body : List ℕ) → held ≡ frame body → SpellsWrite body → (left : Option (List ℕ))
-    → IfSome (option_map (λ rest. held ++ rest) left) (λ bytes. (front : List ℕ) × (rest : List ℕ) × (bytes ≡ frame front ++ rest) × SpellsWrite front)
+pub awaits_write : (held body : List ℕ) → held ≡ frame body → NeedsMemory body → (left : Option (List ℕ))
+    → IfSome (option_map (λ rest. held ++ rest) left) (λ bytes. (front : List ℕ) × (rest : List ℕ) × (bytes ≡ frame front ++ rest) × NeedsMemory front)
 awaits_write held body is spells None = tt
 awaits_write held body is spells (Some rest) = (body, rest, ap (λ (h : List ℕ). h ++ rest) is, spells)

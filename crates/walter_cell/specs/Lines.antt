@@ -3,7 +3,7 @@ use Rattle.std.specs.Prelude.{◌≡◌, ◌≢◌, ◌<◌, ◌⊎◌, ℕ, Boo
 use Rattle.walter_conn.specs.Calls.{Incoming}
 use Rattle.walter_conn.specs.Connections.{incoming, sink_of}
 use Rattle.walter_conn.specs.Frames.{frame, Call}
-use Rattle.walter_request.specs.Requests.{SpellsWrite}
+use Rattle.walter_request.specs.Requests.{NeedsMemory}
 use Rattle.walter_conn.specs.Sequences.{EndWhole, EndCut, HasCalled}
 use Rattle.walter_conn.specs.declared.conn.Conn.{Conn}
 use Rattle.walter_conn.specs.declared.next.Next.{Next}
@@ -67,7 +67,7 @@ HasFaultAt lines number = OfLine lines number (λ line. HasFault line)
 -- what is to come of a client begins with the frame of a Write, where its source tells that
 abbrev pub AwaitsWrite : Incoming → Type 0
 AwaitsWrite incoming = IfSome incoming.unread (λ bytes. (body : List ℕ) × (rest : List ℕ)
-    × (bytes ≡ frame body ++ rest) × SpellsWrite body)
+    × (bytes ≡ frame body ++ rest) × NeedsMemory body)
 
 -- so it is of the client of this number, which has its connection here
 abbrev pub NextIsWrite : List (Option LineValue) → ℕ → Type 0

@@ -5,7 +5,7 @@ use Rattle.walter_stream.specs.declared.sink.Sink.{Ghosts as SinkGhosts}
 use Rattle.walter_conn.specs.Calls.{Incoming}
 use Rattle.walter_conn.specs.Frames.{frame}
 use Rattle.walter_conn.specs.Inputs.{held_by, unread_by}
-use Rattle.walter_request.specs.Requests.{SpellsWrite}
+use Rattle.walter_request.specs.Requests.{NeedsMemory}
 use Rattle.walter_conn.specs.declared.conn.Conn.{Conn}
 
 -- where its bytes come from
@@ -26,4 +26,4 @@ holds_frame conn = conn.whole
 
 -- the bytes that are held are a frame, whose body spells a Write
 abbrev pub HoldsWrite : {S K : Type 0} {s : SourceGhosts S} {k : SinkGhosts K} → Conn S K s k → Type 0
-HoldsWrite conn = (body : List ℕ) × (held_by conn.input ≡ frame body) × SpellsWrite body
+HoldsWrite conn = (body : List ℕ) × (held_by conn.input ≡ frame body) × NeedsMemory body

@@ -1,7 +1,7 @@
 //! What the body of a frame calls for.
 ghost use Rattle.std.specs.Prelude.{◌≤◌, length, IfOk, OnErr};
 ghost use Rattle.walter_conn.specs.Frames.{CallsFor};
-ghost use Rattle.walter_request.specs.Requests.{SpellsWrite};
+ghost use Rattle.walter_request.specs.Requests.{NeedsMemory};
 
 use std::alloc::Global;
 use walter_base::{BadFrame, Call};
@@ -12,7 +12,7 @@ use walter_request::{RequestFault, decode};
 pub fn read_call(alloc: Global, body: &[u8]) -> Mem<Call>
     requires { length body.now ≤ 65536 }
     ensures call { IfOk result (λ call. CallsFor body.now call) }
-    ensures write { OnErr result (SpellsWrite body.now) }
+    ensures write { OnErr result (NeedsMemory body.now) }
 {
     match decode(alloc, body) {
         Ok(request) => Ok(Ok(request)),

@@ -6,7 +6,7 @@ use Rattle.std.specs.Option.{option_map_or}
 use Rattle.std.specs.Ordering.{nat_cmp}
 use Rattle.walter_base.specs.declared.names.ObjId.{ObjId}
 use Rattle.walter_base.specs.declared.update.Update.{Update}
-use Rattle.walter_base.specs.declared.update.Update.TheVariants.{Write, Add, Del}
+use Rattle.walter_base.specs.declared.update.Update.TheVariants.{Write, Add, Del, Move}
 use Rattle.walter_base.specs.Names.{same_object}
 use Rattle.walter_cset.specs.declared.totals.TheConstants.{MOST_TAKEN}
 use Rattle.walter_cset.specs.Tallies.{number_in}
@@ -41,6 +41,7 @@ abbrev pub HasPlace : Table → Update → Type 0
 HasPlace table (Write oid bytes) = Unit {0}
 HasPlace table (Add oid id) = IsPlaced table.sets oid id
 HasPlace table (Del oid id) = IsPlaced table.sets oid id
+HasPlace table (Move container to) = Unit {0}
 
 -- how many updates can be taken in
 abbrev pub most_taken : ℕ

@@ -86,7 +86,7 @@ impl Totals {
         ensures taken { self.new.taken ≡ self.old.taken }
     {
         match update {
-            Update::Write(_, _) => Ok(()),
+            Update::Write(_, _) | Update::Move(_, _) => Ok(()),
             Update::Add(oid, id) | Update::Del(oid, id) => self.open_place(*oid, *id),
         }
     }
@@ -101,7 +101,7 @@ impl Totals {
         ensures taken { self.new.taken ≤ self.old.taken + 1 }
     {
         match update {
-            Update::Write(_, _) => {}
+            Update::Write(_, _) | Update::Move(_, _) => {}
             Update::Add(oid, id) => self.move_count(*oid, *id, 1),
             Update::Del(oid, id) => self.move_count(*oid, *id, -1),
         }
@@ -113,7 +113,7 @@ impl Totals {
         ensures taken { self.new.taken ≡ self.old.taken }
     {
         match update {
-            Update::Write(_, _) => {}
+            Update::Write(_, _) | Update::Move(_, _) => {}
             Update::Add(oid, id) | Update::Del(oid, id) => self.close_place(*oid, *id),
         }
     }

@@ -23,8 +23,10 @@ use Rattle.walter_record.specs.Spelling.{record_spelled, as_version, FitsFormat}
 use Rattle.walter_record.proofs.Records.{length-record_spelled, record_parts, known_kind}
 use Rattle.walter_rules.specs.Layouts.{Placed, packed_size, spare_in}
 use Rattle.walter_base.specs.Sizes.{CanBeSpelled, most_in}
-use Rattle.walter_txcode.specs.Spelling.{numbers_spelled, update_spelled, updates_spelled, head_spelled, spelling}
-use Rattle.walter_txcode.proofs.Lengths.{length-numbers_spelled, length-head_spelled}
+use Rattle.walter_txcode.specs.Spelling.{update_spelled, updates_spelled, head_spelled, spelling}
+use Rattle.walter_names.specs.Vectors.{numbers_spelled}
+use Rattle.walter_txcode.proofs.Lengths.{length-head_spelled}
+use Rattle.walter_names.proofs.Numbers.{length-numbers_spelled}
 use Rattle.walter_checkpoint.specs.Packs.{entry_of, is_cut, cut, start_end, spare_of, kept_in, are_zeros}
 use Rattle.walter_engine.specs.Contents.{spelled_there, HasSpellingThere}
 

@@ -7,7 +7,7 @@ use Rattle.std.proofs.lemmas.List.{take_more, drop-append-le, length-take-le, le
 use Rattle.walter_base.specs.declared.names.ObjId.{ObjId}
 use Rattle.walter_base.specs.declared.update.Row.{Row}
 use Rattle.walter_base.specs.declared.update.Update.{Update}
-use Rattle.walter_base.specs.declared.update.Update.TheVariants.{Write, Add, Del}
+use Rattle.walter_base.specs.declared.update.Update.TheVariants.{Write, Add, Del, Move}
 use Rattle.walter_base.specs.Names.{same_object}
 use Rattle.walter_base.specs.Values.{value_from, value_of, held_after}
 use Rattle.walter_history.specs.Rows.{sees_row, seen_updates}
@@ -36,6 +36,7 @@ after_none : (oid : ObjId) (held : Option (List ℕ)) (u : Update) → held_afte
 after_none oid held (Write at bytes) = elim (same_object at oid) as (λ b. (if b then Some bytes else held) ≡ or_else (if b then Some bytes else None) held) [ true ↦ refl | false ↦ refl ]
 after_none oid held (Add at id) = refl
 after_none oid held (Del at id) = refl
+after_none oid held (Move container to) = refl
 
 or_else-assoc : (a b c : Option (List ℕ)) → or_else a (or_else b c) ≡ or_else (or_else a b) c
 or_else-assoc None b c = refl

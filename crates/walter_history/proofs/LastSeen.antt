@@ -3,10 +3,11 @@ use Rattle.std.proofs.Common.{◌≡◌, ℕ, true, false, List, [], ◌∷◌, 
 use Rattle.std.proofs.Math.Seq.{get_or-append_seam}
 use Rattle.std.proofs.lemmas.List.{map-append, get_or_append_left, length-append}
 use Rattle.std.proofs.lemmas.List.Elements.{filter-append}
+use Rattle.std.proofs.lemmas.Option.{same_Some}
 use Rattle.walter_base.specs.declared.names.ObjId.{ObjId}
 use Rattle.walter_base.specs.declared.update.Row.{Row}
 use Rattle.walter_base.specs.declared.update.Update.{Update}
-use Rattle.walter_base.specs.declared.update.Update.TheVariants.{Write, Add, Del}
+use Rattle.walter_base.specs.declared.update.Update.TheVariants.{Write, Add, Del, Move}
 use Rattle.walter_base.specs.Names.{same_object}
 use Rattle.walter_base.specs.Values.{object_of, value_from, value_of, held_after}
 use Rattle.walter_base.proofs.NameTests.{same_object_refl}
@@ -15,25 +16,26 @@ use Rattle.walter_history.specs.Rows.{AreOf, sees_row, seen_updates, bytes_of, s
 
 pub own_front : (oid : ObjId) (front : List Row) (row : Row) → AreOf oid (front ++ row ∷ []) → AreOf oid front
 own_front oid front row own k d within =
-    subst (λ (r : Row). object_of r.update ≡ oid) (get_or_append_left front (row ∷ []) d k within) (own k d (omega (arith, length-append front (row ∷ []))))
+    subst (λ (r : Row). object_of r.update ≡ Some oid) (get_or_append_left front (row ∷ []) d k within) (own k d (omega (arith, length-append front (row ∷ []))))
 
-own_last : (oid : ObjId) (front : List Row) (row : Row) → AreOf oid (front ++ row ∷ []) → object_of row.update ≡ oid
+own_last : (oid : ObjId) (front : List Row) (row : Row) → AreOf oid (front ++ row ∷ []) → object_of row.update ≡ Some oid
 own_last oid front row own =
-    subst (λ (r : Row). object_of r.update ≡ oid) (get_or-append_seam front row [] row) (own (length front) row (omega (arith, length-append front (row ∷ []))))
+    subst (λ (r : Row). object_of r.update ≡ Some oid) (get_or-append_seam front row [] row) (own (length front) row (omega (arith, length-append front (row ∷ []))))
 
 abbrev or_else : Option (List ℕ) → Option (List ℕ) → Option (List ℕ)
 or_else None held = held
 or_else (Some bytes) held = Some bytes
 
 -- what an update of the object leaves
-held_or : (oid : ObjId) (held : Option (List ℕ)) (update : Update) → object_of update ≡ oid → held_after oid held update ≡ or_else (bytes_of update) held
+held_or : (oid : ObjId) (held : Option (List ℕ)) (update : Update) → object_of update ≡ Some oid → held_after oid held update ≡ or_else (bytes_of update) held
 held_or oid held (Write at bytes) is =
-    let same : at ≡ oid = is in
+    let same : at ≡ oid = same_Some at oid is in
     subst (λ o. (if same_object o oid then Some bytes else held) ≡ Some bytes) (sym same) (rw (same_object_refl oid) refl)
 held_or oid held (Add at id) is = refl
 held_or oid held (Del at id) is = refl
+held_or oid held (Move container to) is = refl
 
-one_row : (vector : List ℕ) (oid : ObjId) (held : Option (List ℕ)) (row : Row) → object_of row.update ≡ oid
+one_row : (vector : List ℕ) (oid : ObjId) (held : Option (List ℕ)) (row : Row) → object_of row.update ≡ Some oid
     → value_from held oid (seen_updates vector (row ∷ [])) ≡ or_else (seen_bytes vector row) held
 one_row vector oid held row is = elim (sees_row vector row) as (λ b. value_from held oid (map (λ r. r.update) (if b then row ∷ [] else [])) ≡ or_else (if b then bytes_of row.update else None) held) [
   | true ↦ held_or oid held row.update is

@@ -23,8 +23,8 @@ kept_writes P floor kept kept2 (last_seen front row is sees value) all = behind 
 
 pub kept_own : (oid : ObjId) (floor : List ℕ) (kept kept2 : Kept) → Folds floor kept kept2 → IsKeptOf oid kept → IsKeptOf oid kept2
 kept_own oid floor kept kept2 folds own = record {
-  writes = kept_writes (λ r. object_of r.update ≡ oid) floor kept kept2 folds.writes own.writes;
-  steps = subst (AreOf oid) (sym {A = List Row} folds.steps) (All-filter (λ (r : Row). not (sees_row floor r)) (λ r. object_of r.update ≡ oid) kept.steps own.steps);
+  writes = kept_writes (λ r. object_of r.update ≡ Some oid) floor kept kept2 folds.writes own.writes;
+  steps = subst (AreOf oid) (sym {A = List Row} folds.steps) (All-filter (λ (r : Row). not (sees_row floor r)) (λ r. object_of r.update ≡ Some oid) kept.steps own.steps);
   are_writes = kept_writes (λ r. is_write r.update ≡ true) floor kept kept2 folds.writes own.are_writes;
 }
 

@@ -7,10 +7,11 @@ use Rattle.std.proofs.lemmas.Int.{ints}
 use Rattle.std.proofs.lemmas.List.{map-append, length-append, append-nil}
 use Rattle.std.proofs.lemmas.List.Elements.{filter-append}
 use Rattle.std.proofs.lemmas.List.Sums.{length-filter}
+use Rattle.std.proofs.lemmas.Option.{same_Some}
 use Rattle.walter_base.specs.declared.names.ObjId.{ObjId}
 use Rattle.walter_base.specs.declared.update.Row.{Row}
 use Rattle.walter_base.specs.declared.update.Update.{Update}
-use Rattle.walter_base.specs.declared.update.Update.TheVariants.{Write, Add, Del}
+use Rattle.walter_base.specs.declared.update.Update.TheVariants.{Write, Add, Del, Move}
 use Rattle.walter_base.specs.Names.{same_object}
 use Rattle.walter_base.specs.Values.{object_of, value_from, value_of, held_after, count_of, adds, takes}
 use Rattle.walter_base.specs.Vectors.{Covers}
@@ -56,11 +57,13 @@ write_counts_none : (oid : ObjId) (id : ℕ) (update : Update) → is_write upda
 write_counts_none oid id (Write at bytes) is = refl
 write_counts_none oid id (Add at name) is = absurd cc
 write_counts_none oid id (Del at name) is = absurd cc
+write_counts_none oid id (Move container to) is = absurd cc
 
 step_leaves : (oid : ObjId) (held : Option (List ℕ)) (update : Update) → is_write update ≡ false → value_from held oid (update ∷ []) ≡ held
 step_leaves oid held (Write at bytes) is = absurd cc
 step_leaves oid held (Add at name) is = refl
 step_leaves oid held (Del at name) is = refl
+step_leaves oid held (Move container to) is = refl
 
 versions-append : (rows : List Row) (row : Row) → versions_in (rows ++ row ∷ []) ≡ versions_in rows ++ versions_in (row ∷ [])
 versions-append rows row =
@@ -126,12 +129,13 @@ covered_sees v floor row covers sees =
     le-leb _ _ (omega (arith, below, more))
 
 -- what a write of the object leaves it
-write_leaves : (oid : ObjId) (held : Option (List ℕ)) (update : Update) → object_of update ≡ oid → is_write update ≡ true → held_after oid held update ≡ bytes_of update
+write_leaves : (oid : ObjId) (held : Option (List ℕ)) (update : Update) → object_of update ≡ Some oid → is_write update ≡ true → held_after oid held update ≡ bytes_of update
 write_leaves oid held (Write at bytes) of is =
-    let same : at ≡ oid = of in
+    let same : at ≡ oid = same_Some at oid of in
     subst (λ o. (if same_object o oid then Some bytes else held) ≡ Some bytes) (sym same) (rw (same_object_refl oid) refl)
 write_leaves oid held (Add at name) of is = absurd cc
 write_leaves oid held (Del at name) of is = absurd cc
+write_leaves oid held (Move container to) of is = absurd cc
 
 seam : (P : Row → Type 0) (front : List Row) (row : Row) (back : List Row) → All P (front ++ row ∷ back) → P row
 seam P front row back all =
@@ -165,7 +169,7 @@ module _ (oid : ObjId) (floor higher : List ℕ) (kept kept2 : Kept) (rows : Lis
   same_value : (v : List ℕ) → Covers v higher → FoldsWrites higher kept.value kept.writes kept2.value kept2.writes → value_by v oid kept2 ≡ value_by v oid kept
   same_value v above (none_seen value writes) = (λ t. value_from (value t) oid (seen_updates v (writes t)))
   same_value v above (last_seen front row is sees value) =
-      let of : object_of row.update ≡ oid = seam (λ r. object_of r.update ≡ oid) front row kept2.writes (subst (AreOf oid) is own.writes) in
+      let of : object_of row.update ≡ Some oid = seam (λ r. object_of r.update ≡ Some oid) front row kept2.writes (subst (AreOf oid) is own.writes) in
       let write : is_write row.update ≡ true = seam (λ r. is_write r.update ≡ true) front row kept2.writes (subst (λ rs. All (λ r. is_write r.update ≡ true) rs) is own.are_writes) in
       let held = value_from kept.value oid (seen_updates v front) in
       let seen : seen_updates v (row ∷ kept2.writes) ≡ row.update ∷ seen_updates v kept2.writes = rw (covered_sees v higher row above sees) refl in

@@ -6,7 +6,7 @@ use Rattle.walter_base.specs.declared.names.ObjId.{ObjId}
 use Rattle.walter_base.specs.declared.names.Version.{Version}
 use Rattle.walter_base.specs.declared.update.Row.{Row}
 use Rattle.walter_base.specs.declared.update.Update.{Update}
-use Rattle.walter_base.specs.declared.update.Update.TheVariants.{Write, Add, Del}
+use Rattle.walter_base.specs.declared.update.Update.TheVariants.{Write, Add, Del, Move}
 use Rattle.walter_base.specs.Values.{value_from, value_of, count_of}
 use Rattle.walter_base.specs.Vectors.{Covers}
 use Rattle.walter_history.specs.Rows.{AreOf, seen_updates}
@@ -26,6 +26,7 @@ abbrev pub is_write : Update → Bool
 is_write (Write oid bytes) = true
 is_write (Add oid id) = false
 is_write (Del oid id) = false
+is_write (Move container to) = false
 
 abbrev pub writes_in : List Row → List Row
 writes_in rows = filter (λ row. is_write row.update) rows

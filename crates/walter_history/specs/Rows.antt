@@ -4,13 +4,13 @@ use Rattle.std.specs.List.{All}
 use Rattle.walter_base.specs.declared.names.ObjId.{ObjId}
 use Rattle.walter_base.specs.declared.update.Row.{Row}
 use Rattle.walter_base.specs.declared.update.Update.{Update}
-use Rattle.walter_base.specs.declared.update.Update.TheVariants.{Write, Add, Del}
+use Rattle.walter_base.specs.declared.update.Update.TheVariants.{Write, Add, Del, Move}
 use Rattle.walter_base.specs.Values.{object_of}
 use Rattle.walter_base.specs.Vectors.{entry_at}
 
 -- each of the rows changes the object
 abbrev pub AreOf : ObjId → List Row → Type 0
-AreOf oid rows = All (λ row. object_of row.update ≡ oid) rows
+AreOf oid rows = All (λ row. object_of row.update ≡ Some oid) rows
 
 -- whether the vector sees the version of a row
 abbrev pub sees_row : List ℕ → Row → Bool
@@ -25,6 +25,7 @@ abbrev pub bytes_of : Update → Option (List ℕ)
 bytes_of (Write oid bytes) = Some bytes
 bytes_of (Add oid id) = None
 bytes_of (Del oid id) = None
+bytes_of (Move container to) = None
 
 -- the bytes that a row writes, where the vector sees it
 abbrev pub seen_bytes : List ℕ → Row → Option (List ℕ)

@@ -46,6 +46,6 @@ fn written(update: Update) -> Option<SharedBytes>
 {
     match update {
         Update::Write(_, bytes) => Some(bytes),
-        Update::Add(_, _) | Update::Del(_, _) => None,
+        Update::Add(_, _) | Update::Del(_, _) | Update::Move(_, _) => None,
     }
 }

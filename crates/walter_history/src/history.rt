@@ -101,7 +101,7 @@ impl History {
     /// Puts a row behind the others of the object, without taking memory.
     pub fn append(&mut self, oid: ObjId, row: Row)
         requires room { 0 < room_of self.old oid }
-        requires own { object_of row.update ≡ oid }
+        requires own { object_of row.update ≡ Some oid }
         ensures still { (other : Object) → IsOpen self.old other → IsOpen self.new other }
         ensures kept { (other : Object) → kept_of self.new other
             ≡ (if same_object oid other then appended row (kept_of self.old oid) else kept_of self.old other) }

@@ -59,7 +59,7 @@ pub fn append(line: &mut Line, row: Row)
             line.versions.push(row.version);
             line.writes.push_reserved(row);
         }
-        Update::Add(_, _) | Update::Del(_, _) => line.steps.push(row),
+        Update::Add(_, _) | Update::Del(_, _) | Update::Move(_, _) => line.steps.push(row),
     }
 }
 

@@ -27,7 +27,7 @@ fn seen_write<'a>(row: &'a Row, by: &Vts) -> Option<&'a SharedBytes>
     }
     match &row.update {
         Update::Write(_, bytes) => Some(bytes),
-        Update::Add(_, _) | Update::Del(_, _) => None,
+        Update::Add(_, _) | Update::Del(_, _) | Update::Move(_, _) => None,
     }
 }
 

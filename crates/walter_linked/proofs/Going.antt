@@ -1,11 +1,10 @@
 -- Sites that agree agree still after a record that a restart found, and after an entry that is right.
-use Rattle.std.proofs.Common.{◌≡◌, ◌≢◌, ◌<◌, ℕ, Some, None, refl, ap, sym, ◌∙◌, subst, arith, inl, inr, ◌⊎◌}
+use Rattle.std.proofs.Common.{◌≡◌, ◌≢◌, ◌+◌, ℕ, length, Some, None, refl, ap, sym, ◌∙◌, subst, arith, inl, inr, ◌⊎◌}
 use Rattle.std.specs.Prelude.{Option, Contains, IfSome}
 use Rattle.std.proofs.lemmas.Option.{same_Some}
 use Rattle.walter_base.specs.declared.catalog.Catalog.{Catalog}
 use Rattle.walter_base.specs.declared.message.Record.{Record}
-use Rattle.walter_base.specs.declared.message.Record.TheVariants.{SlowBegin}
-use Rattle.walter_base.specs.declared.names.ObjId.{ObjId}
+use Rattle.walter_base.specs.declared.message.Record.TheVariants.{Own, SlowBegin}
 use Rattle.walter_base.specs.declared.names.SiteId.{SiteId}
 use Rattle.walter_base.specs.declared.packet.Packet.{Packet}
 use Rattle.walter_base.specs.declared.transaction.Tx.{Tx}
@@ -21,8 +20,8 @@ use Rattle.walter_rules.specs.Learning.{recorded, after, lost}
 use Rattle.walter_rules.specs.Slow.{Unused}
 use Rattle.walter_rules.specs.Standing.{Standing, settled, flight_after, stands_after}
 use Rattle.walter_runs.proofs.Steps.{IsStep, stable, flies, unread_step, wants, finds_full}
-use Rattle.walter_alone.proofs.Alone.{IsAlone, home}
-use Rattle.walter_linked.proofs.Agreed.{Stands, Put, slows, IsSo, IsHeardRight, IsDue, AreAgreed}
+use Rattle.walter_alone.proofs.Alone.{IsAlone, HasHomes}
+use Rattle.walter_linked.proofs.Agreed.{Stands, Put, owns, slows, IsSo, IsHeardRight, IsDue, AreAgreed}
 use Rattle.walter_linked.proofs.Due.{due_of}
 use Rattle.walter_linked.proofs.Grown.{IsRecorded, HasGrown, holds_all, has_grown, so_later, due_later}
 use Rattle.walter_linked.proofs.Heard.{step_taken, heard_later, heard_right}
@@ -46,8 +45,16 @@ module _ (catalog : Catalog) (W Then : Stands) (put then_put : Put) (A : AreAgre
   is_new n x e = let h = if_some (IsDue catalog W put i) rec (SlowBegin n x) due e in alone.tidy.number n
       (let l = h.next in omega (arith, l))
 
+  -- an own commit is the next one
+  is_next : (seq : ℕ) (x : Tx) → rec ≡ Some (Own seq x) → seq ≡ length (owns W i) + 1
+  is_next seq x e =
+      let h = if_some (IsDue catalog W put i) rec (Own seq x) due e in
+      let n = h.next in
+      let full = A.numbered.own.counted i in
+      omega (arith, n, full)
+
   pub grown : HasGrown W Then
-  grown = has_grown catalog i rec W Then R is_new
+  grown = has_grown catalog i rec W Then R is_new is_next
 
   pub core : IsCore catalog Then
   core = recorded_core catalog W Then put A i alone rec R due
@@ -62,6 +69,7 @@ module _ (catalog : Catalog) (W Then : Stands) (put then_put : Put) (A : AreAgre
     counted = core.counted;
     causal = core.causal;
     locked = core.locked;
+    moved = core.moved;
     said = λ j k packet apart p. elim (new j k packet apart p) [
       | inl old ↦ so_later catalog W Then grown j k packet apart (A.said j k packet apart old)
       | inr so ↦ so
@@ -130,7 +138,7 @@ flight_cases None None (Full need left) old r e = absurd cc
 flight_cases None None outcome old r e = inr (refl, e)
 
 -- what comes of a step
-module _ (catalog : Catalog) (homes : (oid : ObjId) → (home catalog oid).0 < catalog.sites) (W : Stands) (put : Put)
+module _ (catalog : Catalog) (homes : HasHomes catalog) (W : Stands) (put : Put)
     (A : AreAgreed catalog W put) (alone : (k : SiteId) → IsAlone catalog k (W k))
     (i : SiteId) (event : Event) (came : Came) (step : IsStep catalog i (W i) event came)
     (delivered : (j : SiteId) (number : ℕ) (packet : Packet) → event ≡ Given (Deliver j number packet)

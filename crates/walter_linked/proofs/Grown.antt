@@ -1,7 +1,8 @@
 -- How sites stand after a record of one of them, and what stays then: what was put out stays so, and what may come at
 -- another site may still come.
-use Rattle.std.proofs.Common.{◌≡◌, ◌≢◌, ◌+◌, ◌-◌, ◌≤◌, ℕ, zero, suc, nat_eq, Bool, true, false, List, slice_get, Some, None, refl, ap, sym, ◌∙◌, subst, arith, inl, inr, if◌then◌else◌}
-use Rattle.std.specs.Prelude.{Option}
+use Rattle.std.proofs.Common.{◌≡◌, ◌≢◌, ◌+◌, ◌-◌, ◌≤◌, ◌⊎◌, ℕ, zero, suc, nat_eq, Bool, true, false, List, length, slice_get, Some, None, refl, ap, sym, ◌∙◌, subst, arith, inl, inr, if◌then◌else◌}
+use Rattle.std.specs.Prelude.{Option, Contains}
+use Rattle.std.proofs.lemmas.Option.{slice_get_within}
 use Rattle.std.proofs.lemmas.List.Elements.{filter-append}
 use Rattle.std.proofs.lemmas.Bool.{cases_eq, ne_eqb}
 use Rattle.walter_base.specs.declared.catalog.Catalog.{Catalog}
@@ -14,22 +15,22 @@ use Rattle.walter_base.specs.declared.packet.Answer.TheVariants.{Yes, No, Later}
 use Rattle.walter_base.specs.declared.packet.Packet.{Packet}
 use Rattle.walter_base.specs.declared.packet.Packet.TheVariants.{Propagate, Ack, Dsmark, Visible, Prepare, Vote, Release, Released as ReleasedSaid}
 use Rattle.walter_base.specs.declared.transaction.Conflict.{Conflict}
-use Rattle.walter_base.specs.declared.transaction.Conflict.TheVariants.{Modified, Locked as LockedThere, Dead}
+use Rattle.walter_base.specs.declared.transaction.Conflict.TheVariants.{Modified, Locked as LockedThere, Dead, Moving}
 use Rattle.walter_base.specs.declared.transaction.Tx.{Tx}
 use Rattle.walter_base.specs.Values.{write_set}
 use Rattle.walter_base.specs.Vectors.{entry_at}
 use Rattle.walter_rules.specs.declared.held.Held.{Held}
-use Rattle.walter_rules.specs.Knowledge.{Knowledge}
-use Rattle.walter_rules.specs.Learning.{recorded, lost, log_after, got_after, committed_after, slow_after, part_after, part_over, part_unlocked, slow_number}
+use Rattle.walter_rules.specs.Knowledge.{Knowledge, preferred_in}
+use Rattle.walter_rules.specs.Learning.{recorded, lost, moves_after, wanted_after, placed_after, log_after, got_after, committed_after, slow_after, part_after, part_over, part_unlocked, slow_number}
 use Rattle.walter_rules.specs.Log.{is_of, of_site, commit_at}
+use Rattle.walter_rules.specs.Objects.{objects_at}
 use Rattle.walter_rules.specs.Slow.{Slow, Unused, Undecided, Dropped, Decided, Free, Locked, Over, begun, ended, decided, is_slow}
 use Rattle.walter_rules.specs.Standing.{Standing}
 use Rattle.walter_agreement.specs.Locking.{IsUnmodified, IsUnlocked}
 use Rattle.walter_agreement.proofs.Cases.{site_cases, slow_cases, not_unused}
 use Rattle.walter_agreement.proofs.Lists.{IsPrefix, prefix_refl, prefix_more, prefix_get}
-use Rattle.walter_alone.proofs.Alone.{home}
 use Rattle.walter_alone.proofs.Kept.{one_more_grows, committed_grows}
-use Rattle.walter_linked.proofs.Agreed.{Stands, Put, logs, owns, received, counts, slows, parts, IsOver, IsSo, IsDue}
+use Rattle.walter_linked.proofs.Agreed.{Stands, Put, logs, owns, received, counts, slows, wants, placed, prefers, parts, IsOver, IsSo, IsDue}
 
 -- site i has this record behind what it had, and the others stand as they stood
 pub record IsRecorded (catalog : Catalog) (i : SiteId) (rec : Option Record) (W Then : Stands) : Type 0 where
@@ -57,6 +58,10 @@ pub record HasGrown (W Then : Stands) : Type 0 where
   pub more : (i k : SiteId) → received W i k ≤ received Then i k
   pub done : (i k : SiteId) → counts W i k ≤ counts Then i k
   pub begins : (j : SiteId) (n : ℕ) (x : Tx) → begun (slows W j n) ≡ Some x → begun (slows Then j n) ≡ Some x
+  pub wanted : (j : SiteId) (n : ℕ) (x : Tx) → begun (slows W j n) ≡ Some x → (k : SiteId)
+      → wants Then j n k ≡ wants W j n k
+  pub places : (k : SiteId) (m : ℕ) (r : Held) → 1 ≤ m → slice_get (owns W k) (m - 1) ≡ Some r
+      → placed Then k m ≡ placed W k m
   pub drops : (j : SiteId) (n : ℕ) (x : Tx) (asked : List SiteId) → slows W j n ≡ Dropped x asked
       → slows Then j n ≡ Dropped x asked
   pub holds : (p j : SiteId) (n : ℕ) → j ≢ p → parts W p j n ≢ Free → parts Then p j n ≢ Free
@@ -117,6 +122,24 @@ module _ (P : Slow → Type 0) (unused : ¬ P Unused) (ends : (g : Slow) → P g
   slow_grows (Some (SlowEnd m)) new n h = kept_if ended ends (nat_eq m n) (K.slow n) h
   slow_grows (Some (Marks durable visible)) new n h = h
   slow_grows (Some FormatRecord) new n h = h
+
+-- what a begun slow commit wants stays
+wanted_grows : (catalog : Catalog) (K : Knowledge) (rec : Option Record)
+    → ((n : ℕ) (x : Tx) → rec ≡ Some (SlowBegin n x) → K.slow n ≡ Unused) → (n : ℕ) (y : Tx) → begun (K.slow n) ≡ Some y
+    → (k : SiteId) → wanted_after catalog K rec n k ≡ K.wanted n k
+wanted_grows catalog K None new n y h k = refl
+wanted_grows catalog K (Some (SlowBegin m x)) new n y h k = elim (cases_eq m n) [
+  | inl same ↦ absurd (not_unused (K.slow n) y h (subst (λ z. K.slow z ≡ Unused) same (new m x refl)))
+  | inr apart ↦ rw (ne_eqb m n apart) refl
+]
+wanted_grows catalog K (Some rec) new n y h k = refl
+
+-- and where an own commit is to be held
+placed_grows : (catalog : Catalog) (K : Knowledge) (rec : Option Record) (m : ℕ)
+    → ((seq : ℕ) (x : Tx) → rec ≡ Some (Own seq x) → seq ≢ m) → placed_after catalog K rec m ≡ K.placed m
+placed_grows catalog K None m apart = refl
+placed_grows catalog K (Some (Own seq x)) m apart = rw (ne_eqb seq m (apart seq x refl)) refl
+placed_grows catalog K (Some rec) m apart = refl
 
 pub begun_ended : (g : Slow) → begun (ended g) ≡ begun g
 begun_ended Unused = refl
@@ -186,6 +209,24 @@ module _ (catalog : Catalog) (i : SiteId) (rec : Option Record) (W Then : Stands
     pub slow_here : (n : ℕ) → slows Then i n ≡ slow_after catalog i (lost (W i).knows) rec n
     slow_here n = ap (λ (K : Knowledge). K.slow n) R.here
 
+    pub moves_here : (Then i).knows.moves ≡ moves_after (lost (W i).knows) rec
+    moves_here = ap (λ (K : Knowledge). K.moves) R.here
+
+    pub wanted_here : (n : ℕ) (k : SiteId) → wants Then i n k ≡ wanted_after catalog (lost (W i).knows) rec n k
+    wanted_here n k = ap (λ (K : Knowledge). K.wanted n k) R.here
+
+    pub placed_here : (m : ℕ) → placed Then i m ≡ placed_after catalog (lost (W i).knows) rec m
+    placed_here m = ap (λ (K : Knowledge). K.placed m) R.here
+
+    pub prefers_away : (k : SiteId) → k ≢ i → (c : ℕ) → prefers catalog Then k c ≡ prefers catalog W k c
+    prefers_away k apart c = ap (λ (S : Standing). preferred_in catalog S.knows c) (R.away k apart)
+
+    pub wanted_away : (k : SiteId) → k ≢ i → (n : ℕ) (p : SiteId) → wants Then k n p ≡ wants W k n p
+    wanted_away k apart n p = ap (λ (S : Standing). S.knows.wanted n p) (R.away k apart)
+
+    pub placed_away : (k : SiteId) → k ≢ i → (m : ℕ) → placed Then k m ≡ placed W k m
+    placed_away k apart m = ap (λ (S : Standing). S.knows.placed m) (R.away k apart)
+
     pub part_here : (j : SiteId) (n : ℕ) → parts Then i j n ≡ part_after catalog i (lost (W i).knows) rec j n
     part_here j n = ap (λ (K : Knowledge). K.part j n) R.here
 
@@ -206,8 +247,9 @@ module _ (catalog : Catalog) (i : SiteId) (rec : Option Record) (W Then : Stands
     part_away k apart j n = ap (λ (S : Standing). S.knows.part j n) (R.away k apart)
 
     -- so the stands have grown, where a slow commit that begins is new
-    pub has_grown : ((n : ℕ) (x : Tx) → rec ≡ Some (SlowBegin n x) → slows W i n ≡ Unused) → HasGrown W Then
-    has_grown new = record {
+    pub has_grown : ((n : ℕ) (x : Tx) → rec ≡ Some (SlowBegin n x) → slows W i n ≡ Unused)
+        → ((seq : ℕ) (x : Tx) → rec ≡ Some (Own seq x) → seq ≡ length (owns W i) + 1) → HasGrown W Then
+    has_grown new next = record {
       own = λ k q r. holds_all (λ z. slice_get (owns W z) q ≡ Some r → slice_get (owns Then z) q ≡ Some r) i
           (λ h. ap (λ l. slice_get (of_site i l) q) log_here ∙ prefix_get (of_site i (logs W i))
           (of_site i (log_after rec (logs W i))) r q (front_of i (logs W i) (log_after rec (logs W i))
@@ -223,6 +265,14 @@ module _ (catalog : Catalog) (i : SiteId) (rec : Option Record) (W Then : Stands
           (λ h. ap begun (slow_here n) ∙ slow_grows (λ g. begun g ≡ Some x) (λ e. cc) (λ g e. begun_ended g ∙ e)
           (λ g e. begun_decided g ∙ e) catalog i (lost (W i).knows) rec new n h)
           (λ z apart h. ap begun (slow_away z apart n) ∙ h) j;
+      wanted = λ j n x. holds_all (λ z. begun (slows W z n) ≡ Some x → (k : SiteId)
+          → wants Then z n k ≡ wants W z n k) i
+          (λ h k. wanted_here n k ∙ wanted_grows catalog (lost (W i).knows) rec new n x h k)
+          (λ z apart h k. wanted_away z apart n k) j;
+      places = λ j m r one. holds_all (λ z. slice_get (owns W z) (m - 1) ≡ Some r → placed Then z m ≡ placed W z m) i
+          (λ h. placed_here m ∙ placed_grows catalog (lost (W i).knows) rec m (λ seq x is.
+          let n = next seq x is in let w = slice_get_within (owns W i) (m - 1) r h in λ e. omega (arith, n, w, e, one)))
+          (λ z apart h. placed_away z apart m) j;
       drops = λ j n x asked. holds_all (λ z. slows W z n ≡ Dropped x asked → slows Then z n ≡ Dropped x asked) i
           (λ h. slow_here n ∙ slow_grows (λ g. g ≡ Dropped x asked) (λ e. cc) (λ g e. ap ended e)
           (λ g e. ap decided e) catalog i (lost (W i).knows) rec new n h)
@@ -259,6 +309,7 @@ module _ (catalog : Catalog) (W Then : Stands) (G : HasGrown W Then) where
     λ q low. let r = h.2 q low in (r.0, G.own owner.site q r.0 r.1, r.2),
   )
   over_later x Dead h = tt
+  over_later x (Moving oid) h = h
 
   -- what a packet to another site says stays so
   pub so_later : (j i : SiteId) (packet : Packet) → j ≢ i → IsSo catalog W j i packet → IsSo catalog Then j i packet
@@ -266,7 +317,8 @@ module _ (catalog : Catalog) (W Then : Stands) (G : HasGrown W Then) where
   so_later j i (Ack got) apart h = let l = G.more j i in omega (arith, h, l)
   so_later j i (Dsmark durable) apart h = tt
   so_later j i (Visible committed) apart h = let l = G.done j i in omega (arith, h, l)
-  so_later j i (Prepare n tid start objects) apart h = (h.0, G.begins j n h.0 h.1, h.2, h.3, h.4, h.5)
+  so_later j i (Prepare n tid start objects) apart h =
+      (h.0, G.begins j n h.0 h.1, h.2, h.3, h.4 ∙ sym (G.wanted j n h.0 h.1 i))
   so_later j i (Vote n Yes) apart h =
       let b = is_begun (slows W i n) h.0 in
       (λ e. not_unused (slows Then i n) b.0 (G.begins i n b.0 b.1) e, G.holds j i n (λ e. apart (sym e)) h.1)
@@ -282,6 +334,9 @@ module _ (catalog : Catalog) (W Then : Stands) (put then_put : Put) (G : HasGrow
   due_by : (P : Knowledge → Type 0) → P (lost (W i).knows) → P (lost (Then i).knows)
   due_by P h = subst P (sym same) h
 
+  due_by_back : (P : Knowledge → Type 0) → P (lost (Then i).knows) → P (lost (W i).knows)
+  due_by_back P h = subst P same h
+
   pub due_later : (r : Record) → IsDue catalog W put i r → IsDue catalog Then then_put i r
   due_later (Boot epoch) h = tt
   due_later (Own seq x) h = record {
@@ -289,21 +344,43 @@ module _ (catalog : Catalog) (W Then : Stands) (put then_put : Put) (G : HasGrow
     site = h.site;
     some = h.some;
     decided = elim h.decided [
-      | inl fast ↦ inl (
-        fast.0,
-        fast.1,
-        due_by (λ K. IsUnmodified (home catalog) i x.start
-            (write_set x.updates) K.log) fast.2,
-        due_by (λ K. IsUnlocked (home catalog) i K.part
-            (write_set x.updates)) fast.3,
-        due_by (λ K. (k : SiteId) → entry_at x.start k ≤ K.committed k) fast.4,
-      )
-      | inr slow ↦ inr (
-        slow.0,
-        due_by (λ K. (asked : List SiteId) × (K.slow x.slow ≡ Undecided x asked)) slow.1,
-        λ oid w apart. G.holds (home catalog oid) i x.slow (λ e. apart (sym e)) (slow.2 oid w apart),
-        due_by (λ K. (k : SiteId) → entry_at x.start k ≤ K.committed k) slow.3,
-      )
+      | inl fast ↦ inl (record {
+        fast = fast.fast;
+        bare = fast.bare;
+        local = due_by (λ K. (oid : ObjId) → Contains (write_set x.updates) oid
+            → preferred_in catalog K oid.container ≡ i)
+            fast.local;
+        unmodified = due_by (λ K. IsUnmodified x.start (write_set x.updates) K.log) fast.unmodified;
+        unlocked = due_by (λ K. IsUnlocked K.part (write_set x.updates)) fast.unlocked;
+        covered = due_by (λ K. (k : SiteId) → entry_at x.start k ≤ K.committed k) fast.covered;
+      })
+      | inr (inl voted) ↦ inr (inl (record {
+        some = voted.some;
+        bare = voted.bare;
+        asked = voted.asked;
+        undecided = due_by (λ K. K.slow x.slow ≡ Undecided x voted.asked) voted.undecided;
+        wanted = due_by (λ K. (oid : ObjId) → Contains (write_set x.updates) oid
+            → (p : SiteId) × Contains (K.wanted x.slow p) oid × ((p ≡ i) ⊎ Contains voted.asked p)) voted.wanted;
+        voted = λ p c. elim (site_cases p i) [
+          | inl same ↦ λ e. voted.voted p c (subst (λ z. parts W z i x.slow ≡ Free) (sym same.1)
+              (due_by_back (λ K. K.part i x.slow ≡ Free) (subst (λ z. parts Then z i x.slow ≡ Free) same.1 e)))
+          | inr apart ↦ G.holds p i x.slow (λ e. apart.1 (sym e)) (voted.voted p c)
+        ];
+        covered = due_by (λ K. (k : SiteId) → entry_at x.start k ≤ K.committed k) voted.covered;
+      }))
+      | inr (inr hands) ↦ inr (inr (record {
+        container = hands.container;
+        to = hands.to;
+        only = hands.only;
+        fast = hands.fast;
+        apart = hands.apart;
+        here = due_by (λ K. preferred_in catalog K hands.container ≡ i) hands.here;
+        covered = due_by (λ K. (k : SiteId) → entry_at x.start k ≤ K.committed k) hands.covered;
+        sees_all = due_by (λ K. (k : SiteId) → K.committed k ≤ entry_at x.start k) hands.sees_all;
+        free = due_by (λ K. (j : SiteId) (n : ℕ) (t : Tid) (objs : List ObjId) (oid : ObjId)
+            → K.part j n ≡ Locked t objs
+            → Contains objs oid → oid.container ≢ hands.container) hands.free;
+      }))
     ];
   }
   due_later (Got j seq x) h = record {
@@ -325,15 +402,16 @@ module _ (catalog : Catalog) (W Then : Stands) (put then_put : Put) (G : HasGrow
     start = h.start;
     said = puts j i (Prepare n tid h.start objects) h.said;
     free = due_by (λ K. K.part j n ≡ Free) h.free;
-    unmodified = due_by (λ K. IsUnmodified (home catalog) i h.start objects K.log) h.unmodified;
-    unlocked = due_by (λ K. IsUnlocked (home catalog) i K.part objects) h.unlocked;
+    here = due_by (λ K. (oid : ObjId) → Contains objects oid → preferred_in catalog K oid.container ≡ i) h.here;
+    unmodified = due_by (λ K. IsUnmodified h.start objects K.log) h.unmodified;
+    unlocked = due_by (λ K. IsUnlocked K.part objects) h.unlocked;
   }
   due_later (Released j n) h = (h.0, puts j i (Release n) h.1)
   due_later (SlowBegin n x) h = record {
     next = due_by (λ K. n ≡ K.last + 1) h.next;
     named = h.named;
-    unmodified = due_by (λ K. IsUnmodified (home catalog) i x.start (write_set x.updates) K.log) h.unmodified;
-    unlocked = due_by (λ K. IsUnlocked (home catalog) i K.part (write_set x.updates)) h.unlocked;
+    unmodified = due_by (λ K. IsUnmodified x.start (objects_at catalog K i x.updates) K.log) h.unmodified;
+    unlocked = due_by (λ K. IsUnlocked K.part (objects_at catalog K i x.updates)) h.unlocked;
   }
   due_later (SlowEnd n) h = tt
   due_later (Marks durable visible) h = tt

@@ -20,7 +20,7 @@ use Rattle.walter_rules.specs.declared.event.Event.TheVariants.{Given}
 use Rattle.walter_rules.specs.declared.event.Input.TheVariants.{Call, Deliver}
 use Rattle.walter_rules.specs.declared.outcome.Outcome.{Outcome}
 use Rattle.walter_rules.specs.declared.outcome.Outcome.TheVariants.{Taken}
-use Rattle.walter_rules.specs.Allowed.{IsKind, is_refused, starts, does, reads, ends, aborts, conflicts, commits, begins, waits, tells_version, tells_cause, levels_own, is_deciding, is_running, denies, passes, receives, hears_ack, hears_durable, hears_visible, marks_durable, marks_visible, prepares, hears_yes, decides, gives_up, releases, hears_released, sees, upgrades, stops, is_down, boots}
+use Rattle.walter_rules.specs.Allowed.{IsKind, is_refused, starts, does, reads, ends, aborts, conflicts, commits, begins, moves, waits, tells_version, tells_cause, levels_own, is_deciding, is_running, denies, passes, receives, hears_ack, hears_durable, hears_visible, marks_durable, marks_visible, prepares, hears_yes, decides, gives_up, releases, hears_released, sees, upgrades, stops, is_down, boots, tells_token}
 use Rattle.walter_rules.specs.Knowledge.{Knowledge}
 use Rattle.walter_rules.specs.Learning.{risen, acknowledged_after, said_visible_after, said_yes_after, said_no_after, heard_of, after, lost}
 use Rattle.walter_rules.specs.Standing.{Standing, goes_down, knows_after}
@@ -39,7 +39,7 @@ IsTakenRight i outcome event = Unit {0}
 kind_taken : (catalog : Catalog) (i : SiteId) (S : Standing) (event : Event) (rec : Option Record) (outcome : Outcome)
     → IsKind catalog i S event rec outcome → IsTakenRight i outcome event
 kind_taken catalog i S event rec outcome (is_refused client call refusal) = tt
-kind_taken catalog i S event rec outcome (starts client up none) = tt
+kind_taken catalog i S event rec outcome (starts client call up none asks) = tt
 kind_taken catalog i S event rec outcome (does client call s update has is declared) = tt
 kind_taken catalog i S event rec outcome (reads client call s reply has is) = tt
 kind_taken catalog i S event rec outcome (ends client s has none) = tt
@@ -47,6 +47,7 @@ kind_taken catalog i S event rec outcome (aborts client s has) = tt
 kind_taken catalog i S event rec outcome (conflicts client s conflict has first) = tt
 kind_taken catalog i S event rec outcome (commits client s has some local clear) = tt
 kind_taken catalog i S event rec outcome (begins client s has some clear) = tt
+kind_taken catalog i S event rec outcome (moves client container to may) = tt
 kind_taken catalog i S event rec outcome (waits client s tx asked has undecided) = tt
 kind_taken catalog i S event rec outcome (tells_version client s tx seq has done at) = tt
 kind_taken catalog i S event rec outcome (tells_cause client s tx asked conflict has dropped said) = tt
@@ -54,6 +55,7 @@ kind_taken catalog i S event rec outcome (levels_own client tid seq up site at) 
 kind_taken catalog i S event rec outcome (is_deciding client tid up) = tt
 kind_taken catalog i S event rec outcome (is_running client tid up) = tt
 kind_taken catalog i S event rec outcome (denies client tid up site issued none not_undecided not_open) = tt
+kind_taken catalog i S event rec outcome (tells_token client up) = tt
 kind_taken catalog i S event rec outcome (passes event_) = tt
 kind_taken catalog i S event rec outcome (receives j number seq tx peer next) = peer.apart
 kind_taken catalog i S event rec outcome (hears_ack j number got peer few) = peer.apart

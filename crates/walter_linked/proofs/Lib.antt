@@ -1,3 +1,4 @@
+pub mod Handing
 pub mod Agreed
 pub mod Lost
 pub mod Grown

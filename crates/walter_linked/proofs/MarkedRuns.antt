@@ -1,7 +1,7 @@
 -- In each run marks are true, and what clients are told of levels; and what a site has of another is that one's own
 -- commits.
 use Rattle.std.proofs.Common.{◌≡◌, ◌≢◌, ◌<◌, ◌≤◌, ℕ, nat_le, true, false, List, [], ◌∷◌, Some, None, refl, ap, sym, ◌∙◌, subst, arith, inl, inr, if◌then◌else◌}
-use Rattle.std.specs.Prelude.{Option, IfSome, Result, Ok}
+use Rattle.std.specs.Prelude.{Option, IfSome, Contains, Result, Ok}
 use Rattle.std.proofs.lemmas.Bool.{leb-true}
 use Rattle.std.proofs.lemmas.Option.{same_Some}
 use Rattle.walter_base.specs.declared.catalog.Catalog.{Catalog}
@@ -14,7 +14,6 @@ use Rattle.walter_base.specs.declared.message.Request.{Request}
 use Rattle.walter_base.specs.declared.update.Update.{Update}
 use Rattle.walter_base.specs.declared.message.Reply.TheVariants.{Level}
 use Rattle.walter_base.specs.declared.message.Request.TheVariants.{Level as LevelAsked}
-use Rattle.walter_base.specs.declared.names.ObjId.{ObjId}
 use Rattle.walter_base.specs.declared.names.SiteId.{SiteId}
 use Rattle.walter_base.specs.declared.names.Tid.{Tid}
 use Rattle.walter_base.specs.Names.{same_tid}
@@ -28,7 +27,7 @@ use Rattle.walter_rules.specs.declared.event.Input.TheVariants.{Call}
 use Rattle.walter_rules.specs.declared.held.Held.{Held}
 use Rattle.walter_rules.specs.declared.outcome.Outcome.{Outcome}
 use Rattle.walter_rules.specs.declared.outcome.Outcome.TheVariants.{Replied}
-use Rattle.walter_rules.specs.Allowed.{IsKind, IsReadCall, of_value, of_counts, of_count, is_refused, starts, does, reads, ends, aborts, conflicts, commits, begins, waits, tells_version, tells_cause, levels_own, is_deciding, is_running, denies, passes, receives, hears_ack, hears_durable, hears_visible, marks_durable, marks_visible, prepares, hears_yes, decides, gives_up, releases, hears_released, sees, upgrades, stops, is_down, boots}
+use Rattle.walter_rules.specs.Allowed.{IsKind, IsReadCall, of_value, of_counts, of_count, is_refused, starts, does, reads, ends, aborts, conflicts, commits, begins, moves, waits, tells_version, tells_cause, levels_own, is_deciding, is_running, denies, passes, receives, hears_ack, hears_durable, hears_visible, marks_durable, marks_visible, prepares, hears_yes, decides, gives_up, releases, hears_released, sees, upgrades, stops, is_down, boots, tells_token}
 use Rattle.walter_rules.specs.Calls.{read_updates, seq_of, level_of_own}
 use Rattle.walter_rules.specs.Knowledge.{sites}
 use Rattle.walter_rules.specs.Layouts.{Layout}
@@ -43,9 +42,9 @@ use Rattle.walter_runs.proofs.Steps.{IsStep, stable, flies, unread_step, wants, 
 use Rattle.walter_agreement.proofs.Cases.{none_not_some}
 use Rattle.walter_agreement.proofs.Lists.{prefix_get}
 use Rattle.walter_agreement.proofs.Marked.{none_marked}
-use Rattle.walter_alone.proofs.Alone.{IsAlone, home}
+use Rattle.walter_alone.proofs.Alone.{IsAlone, HasHomes}
 use Rattle.walter_linked.specs.Marks.{IsDurableBy, IsVisibleBy, IsOwnCommit, AreMarksTrue, AreGotRight}
-use Rattle.walter_linked.proofs.Agreed.{Stands, Put, owns, received, counts, IsDue, AreAgreed}
+use Rattle.walter_linked.proofs.Agreed.{Stands, Put, owns, received, counts, placed, IsDue, AreAgreed}
 use Rattle.walter_linked.proofs.Going.{if_some}
 use Rattle.walter_linked.proofs.Grown.{at_all}
 use Rattle.walter_linked.proofs.Marking.{AreMarkedRight, IsTrueIn, wrote_true, marked_settled, marked_after}
@@ -83,8 +82,9 @@ seq_own catalog W put A i tid seq at =
       | false ↦ λ isnt e. absurd cc
     ] refl given.2
 
-module _ (catalog : Catalog) (homes : (oid : ObjId) → (home catalog oid).0 < catalog.sites) (W : Stands) (put : Put)
-    (A : AreAgreed catalog W put) (M : AreMarkedRight catalog W put) (i : SiteId) where
+module _ (catalog : Catalog) (homes : HasHomes catalog) (W : Stands) (put : Put)
+    (A : AreAgreed catalog W put) (M : AreMarkedRight catalog W put) (i : SiteId)
+    (within : (m : ℕ) (k : SiteId) → Contains (placed W i m) k → k.0 < catalog.sites) where
   own_level : (client : ℕ) (tid : Tid) (seq : ℕ) → seq_of i (W i).knows tid ≡ Some seq
       → IsLevelRight catalog W i (Replied (Level (level_of_own catalog i (W i).knows seq)))
       (Given (Call client (Ok (LevelAsked tid))))
@@ -101,7 +101,8 @@ module _ (catalog : Catalog) (homes : (oid : ObjId) → (home catalog oid).0 < c
           own,
           λ k c.
               let low = leb-true seq (visible_mark catalog i (W i).knows) is in
-              let all = visible_true catalog homes W (core_of catalog W put A) i (W i).knows refl (A.heard i).visible
+              let all = visible_true catalog homes W (core_of catalog W put A) i within (W i).knows refl
+              (A.heard i).visible
               (M.marked.visibles i) k c in
               omega (arith, low, all),
         )
@@ -112,7 +113,8 @@ module _ (catalog : Catalog) (homes : (oid : ObjId) → (home catalog oid).0 < c
               | true ↦ λ is. (
                 seq,
                 own,
-                durable_true catalog homes W (core_of catalog W put A) i (W i).knows refl (A.heard i).acknowledged
+                durable_true catalog homes W (core_of catalog W put A) i within (W i).knows refl
+                    (A.heard i).acknowledged
                     (M.marked.durables i) seq one
                     (leb-true seq (durable_mark catalog i (W i).knows) is),
               )
@@ -129,7 +131,7 @@ module _ (catalog : Catalog) (homes : (oid : ObjId) → (home catalog oid).0 < c
   kind_level : (event : Event) (rec : Option Record) (outcome : Outcome) → IsKind catalog i (W i) event rec outcome
       → IsLevelRight catalog W i outcome event
   kind_level event rec outcome (is_refused client call refusal) = tt
-  kind_level event rec outcome (starts client up none) = tt
+  kind_level event rec outcome (starts client call up none asks) = tt
   kind_level event rec outcome (does client call s update has is declared) = tt
   kind_level event rec outcome (reads client call s reply has is) = read_level client call reply
       (read_updates (W i).knows s) is
@@ -138,6 +140,7 @@ module _ (catalog : Catalog) (homes : (oid : ObjId) → (home catalog oid).0 < c
   kind_level event rec outcome (conflicts client s conflict has first) = tt
   kind_level event rec outcome (commits client s has some local clear) = tt
   kind_level event rec outcome (begins client s has some clear) = tt
+  kind_level event rec outcome (moves client container to may) = tt
   kind_level event rec outcome (waits client s tx asked has undecided) = tt
   kind_level event rec outcome (tells_version client s tx seq has done at) = tt
   kind_level event rec outcome (tells_cause client s tx asked conflict has dropped said) = tt
@@ -145,6 +148,7 @@ module _ (catalog : Catalog) (homes : (oid : ObjId) → (home catalog oid).0 < c
   kind_level event rec outcome (is_deciding client tid up) = tt
   kind_level event rec outcome (is_running client tid up) = tt
   kind_level event rec outcome (denies client tid up site issued none not_undecided not_open) = tt
+  kind_level event rec outcome (tells_token client up) = tt
   kind_level event rec outcome (passes event_) = tt
   kind_level event rec outcome (receives j number seq tx peer next) = tt
   kind_level event rec outcome (hears_ack j number got peer few) = tt
@@ -197,7 +201,7 @@ IsAtAdvance rec event = Unit {0}
 seen_at : (catalog : Catalog) (i : SiteId) (S : Standing) (event : Event) (rec : Option Record) (outcome : Outcome)
     → IsKind catalog i S event rec outcome → IsAtAdvance rec event
 seen_at catalog i S event rec outcome (is_refused client call refusal) = tt
-seen_at catalog i S event rec outcome (starts client up none) = tt
+seen_at catalog i S event rec outcome (starts client call up none asks) = tt
 seen_at catalog i S event rec outcome (does client call s update has is declared) = tt
 seen_at catalog i S event rec outcome (reads client call s reply has is) = tt
 seen_at catalog i S event rec outcome (ends client s has none) = tt
@@ -205,6 +209,7 @@ seen_at catalog i S event rec outcome (aborts client s has) = tt
 seen_at catalog i S event rec outcome (conflicts client s conflict has first) = tt
 seen_at catalog i S event rec outcome (commits client s has some local clear) = tt
 seen_at catalog i S event rec outcome (begins client s has some clear) = tt
+seen_at catalog i S event rec outcome (moves client container to may) = tt
 seen_at catalog i S event rec outcome (waits client s tx asked has undecided) = tt
 seen_at catalog i S event rec outcome (tells_version client s tx seq has done at) = tt
 seen_at catalog i S event rec outcome (tells_cause client s tx asked conflict has dropped said) = tt
@@ -212,6 +217,7 @@ seen_at catalog i S event rec outcome (levels_own client tid seq up site at) = t
 seen_at catalog i S event rec outcome (is_deciding client tid up) = tt
 seen_at catalog i S event rec outcome (is_running client tid up) = tt
 seen_at catalog i S event rec outcome (denies client tid up site issued none not_undecided not_open) = tt
+seen_at catalog i S event rec outcome (tells_token client up) = tt
 seen_at catalog i S event rec outcome (passes event_) = tt
 seen_at catalog i S event rec outcome (receives j number seq tx peer next) = tt
 seen_at catalog i S event rec outcome (hears_ack j number got peer few) = tt
@@ -258,7 +264,7 @@ found_none catalog older n none =
     (found_away catalog older n) in
     λ t k. each k t
 
-module _ (catalog : Catalog) (layouts : SiteId → Layout) (homes : (oid : ObjId) → (home catalog oid).0 < catalog.sites)
+module _ (catalog : Catalog) (layouts : SiteId → Layout) (homes : HasHomes catalog)
     (right_alone : (i : SiteId) → i.0 < catalog.sites → (older : List Entry) → AreRight catalog (layouts i) i older
     → IsAlone catalog i (standing catalog i older))
     (settled_alone : (i : SiteId) → i.0 < catalog.sites → (older : List Entry) (e : Entry)
@@ -286,7 +292,7 @@ module _ (catalog : Catalog) (layouts : SiteId → Layout) (homes : (oid : ObjId
   pub run_marked : (run : List Named) → IsRun catalog layouts run
       → AreMarkedRight catalog (stands catalog run) (IsPut run)
   run_marked [] is = record {
-    marked = none_marked (home catalog) (sites catalog) catalog.tolerated (owns (stands catalog []))
+    marked = none_marked (placed (stands catalog [])) (sites catalog) catalog.tolerated (owns (stands catalog []))
         (received (stands catalog [])) (counts (stands catalog [])) (IsPut [])
         (λ i. (stands catalog [] i).knows.durable_floor) (λ i. (stands catalog [] i).knows.visible_floor)
         (λ i. (stands catalog [] i).flight)
@@ -300,7 +306,9 @@ module _ (catalog : Catalog) (layouts : SiteId → Layout) (homes : (oid : ObjId
       (found_marked older n is (run_marked older is.0))
       (found_alone catalog layouts homes right_alone settled_alone older n is.0 is.1) n.0 n.1.event n.1.came
       (next_step catalog layouts homes right_alone settled_alone older n is.0 is.1) is.1.put
-      (stands catalog (n ∷ older)) (stands_here catalog older n) (stands_away catalog older n) (IsPut (n ∷ older))
+      (stands catalog (n ∷ older))
+      ((run_alone catalog layouts homes right_alone settled_alone (n ∷ older) is n.0).placed homes)
+      (stands_here catalog older n) (stands_away catalog older n) (IsPut (n ∷ older))
       (put_later n older) (put_cases n older)
 
   -- so it is with each entry
@@ -310,11 +318,12 @@ module _ (catalog : Catalog) (layouts : SiteId → Layout) (homes : (oid : ObjId
       let M0 = run_marked older is.0 in
       let M = found_marked older n is M0 in
       let step = next_step catalog layouts homes right_alone settled_alone older n is.0 is.1 in
+      let within = (found_alone catalog layouts homes right_alone settled_alone older n is.0 is.1 n.0).placed homes in
       let level : n.1.event ≢ Restart → IsLevelRight catalog
       (stands catalog older) n.0 n.1.came.outcome n.1.event = λ apart.
       subst (λ W. IsLevelRight catalog W n.0 n.1.came.outcome n.1.event)
       (found_none catalog older n (none_found (stands catalog older n.0) n.1.event n.1.came.kept is.1.right.kept apart))
-      (step_level catalog homes (found catalog older n) (IsPut older) A M n.0 n.1.event n.1.came step) in
+      (step_level catalog homes (found catalog older n) (IsPut older) A M n.0 within n.1.event n.1.came step) in
       record {
         seen = λ j m e. elim e [
           | inl wrote ↦
@@ -322,7 +331,7 @@ module _ (catalog : Catalog) (layouts : SiteId → Layout) (homes : (oid : ObjId
               let due = wrote_due catalog layouts homes right_alone settled_alone older n is (Seen j m) wrote in
               let true_ = if_some (IsTrueIn catalog (found catalog older n) n.0) n.1.came.wrote (Seen j m)
               (wrote_true catalog homes (found catalog older n)
-              (IsPut older) A M n.0 n.1.event is.1.put n.1.came step) wrote in
+              (IsPut older) A M n.0 within n.1.event is.1.put n.1.came step) wrote in
               subst (λ W. IsDurableBy catalog W j m) (found_none catalog older n
               (none_found (stands catalog older n.0) n.1.event n.1.came.kept is.1.right.kept apart))
               (true_ m (let l = due.next in omega (arith, l)) (omega arith))

@@ -5,7 +5,6 @@ use Rattle.std.proofs.lemmas.Option.{same_Some}
 use Rattle.walter_base.specs.declared.catalog.Catalog.{Catalog}
 use Rattle.walter_base.specs.declared.message.Record.{Record}
 use Rattle.walter_base.specs.declared.message.Record.TheVariants.{Own, Seen, Marks}
-use Rattle.walter_base.specs.declared.names.ObjId.{ObjId}
 use Rattle.walter_base.specs.declared.names.SiteId.{SiteId}
 use Rattle.walter_base.specs.declared.packet.Packet.{Packet}
 use Rattle.walter_base.specs.declared.packet.Packet.TheVariants.{Propagate, Ack, Dsmark, Visible as VisibleSaid, Prepare, Vote, Release, Released as ReleasedSaid}
@@ -15,7 +14,7 @@ use Rattle.walter_rules.specs.declared.event.Event.TheVariants.{Given}
 use Rattle.walter_rules.specs.declared.event.Input.TheVariants.{Deliver}
 use Rattle.walter_rules.specs.declared.outcome.Outcome.{Outcome}
 use Rattle.walter_rules.specs.declared.outcome.Outcome.TheVariants.{Taken}
-use Rattle.walter_rules.specs.Allowed.{IsKind, IsTrueOf, is_refused, starts, does, reads, ends, aborts, conflicts, commits, begins, waits, tells_version, tells_cause, levels_own, is_deciding, is_running, denies, passes, receives, hears_ack, hears_durable, hears_visible, marks_durable, marks_visible, prepares, hears_yes, decides, gives_up, releases, hears_released, sees, upgrades, stops, is_down, boots}
+use Rattle.walter_rules.specs.Allowed.{IsKind, IsTrueOf, is_refused, starts, does, reads, ends, aborts, conflicts, commits, begins, moves, waits, tells_version, tells_cause, levels_own, is_deciding, is_running, denies, passes, receives, hears_ack, hears_durable, hears_visible, marks_durable, marks_visible, prepares, hears_yes, decides, gives_up, releases, hears_released, sees, upgrades, stops, is_down, boots, tells_token}
 use Rattle.walter_rules.specs.Knowledge.{Knowledge, sites}
 use Rattle.walter_rules.specs.Learning.{heard, after, lost, said_durable_after, durable_after, visible_after, committed_after}
 use Rattle.walter_rules.specs.Marks.{durable_mark, visible_mark}
@@ -24,8 +23,8 @@ use Rattle.walter_runs.proofs.Steps.{IsStep, stable, flies, unread_step, wants, 
 use Rattle.walter_agreement.specs.Marks.{AreDurable, AreVisible}
 use Rattle.walter_agreement.proofs.Cases.{site_cases}
 use Rattle.walter_agreement.proofs.Marked.{AreMarked, IsTruePacket, IsTrueRecord, all_durable_later, durable_mark_true, marked_later, record_later}
-use Rattle.walter_alone.proofs.Alone.{IsAlone, home}
-use Rattle.walter_linked.proofs.Agreed.{Stands, Put, owns, received, counts, IsDue, AreAgreed}
+use Rattle.walter_alone.proofs.Alone.{IsAlone, HasHomes}
+use Rattle.walter_linked.proofs.Agreed.{Stands, Put, owns, received, counts, placed, IsDue, AreAgreed}
 use Rattle.walter_linked.proofs.Going.{if_none, flight_cases, sent_by, settled_recorded, grown, step_recorded, step_grown, wrote_by, agreed_after}
 use Rattle.walter_linked.proofs.Grown.{IsRecorded, HasGrown, holds_all}
 use Rattle.walter_linked.proofs.Heard.{IsTakenRight, step_taken, acknowledged_right, visible_right}
@@ -35,23 +34,23 @@ use Rattle.walter_linked.proofs.Recorded.{core_of}
 
 -- the first d commits of site k are durable, by how all stand; the first v are visible
 abbrev pub AreDurableIn : Catalog → Stands → SiteId → ℕ → Type 0
-AreDurableIn catalog W k d = AreDurable (home catalog) catalog.tolerated (owns W k) (λ s. received W s k) d
+AreDurableIn catalog W k d = AreDurable (placed W k) catalog.tolerated (owns W k) (λ s. received W s k) d
 
 abbrev pub AreVisibleIn : Catalog → Stands → SiteId → ℕ → Type 0
 AreVisibleIn catalog W k v = AreVisible (sites catalog) (λ s. counts W s k) v
 
 -- a record, and a packet, that speaks of marks is so
 abbrev pub IsTrueIn : Catalog → Stands → SiteId → Record → Type 0
-IsTrueIn catalog W i r = IsTrueRecord (home catalog) (sites catalog) catalog.tolerated (owns W) (received W)
+IsTrueIn catalog W i r = IsTrueRecord (placed W) (sites catalog) catalog.tolerated (owns W) (received W)
     (counts W) i r
 
 abbrev pub IsSaidIn : Catalog → Stands → SiteId → SiteId → Packet → Type 0
-IsSaidIn catalog W j k packet = IsTruePacket (home catalog) catalog.tolerated (owns W) (received W)
+IsSaidIn catalog W j k packet = IsTruePacket (placed W) catalog.tolerated (owns W) (received W)
     (counts W) j k packet
 
 -- marks are true, and what peers called durable is
 pub record AreMarkedRight (catalog : Catalog) (W : Stands) (put : Put) : Type 0 where
-  pub marked : AreMarked (home catalog) (sites catalog) catalog.tolerated (owns W) (received W) (counts W) put
+  pub marked : AreMarked (placed W) (sites catalog) catalog.tolerated (owns W) (received W) (counts W) put
       (λ i. (W i).knows.durable_floor) (λ i. (W i).knows.visible_floor) (λ i. (W i).flight)
   pub told : (i k : SiteId) → AreDurableIn catalog W k ((W i).knows.durable k)
 
@@ -62,6 +61,8 @@ grown_none W = record {
   more = λ i k. omega arith;
   done = λ i k. omega arith;
   begins = λ j n x h. h;
+  wanted = λ j n x h k. refl;
+  places = λ k m r one h. refl;
   drops = λ j n x asked h. h;
   holds = λ p j n apart h. h;
 }
@@ -69,11 +70,13 @@ grown_none W = record {
 -- what is durable stays so
 durable_in_later : (catalog : Catalog) (W Then : Stands) → HasGrown W Then → (k : SiteId) (d e : ℕ) → e ≤ d
     → AreDurableIn catalog W k d → AreDurableIn catalog Then k e
-durable_in_later catalog W Then G k d e fewer h = all_durable_later (home catalog) catalog.tolerated (owns W k)
-    (owns Then k) (λ s. received W s k) (λ s. received Then s k) (G.own k) (λ s. G.more s k) d e fewer h
+durable_in_later catalog W Then G k d e fewer h =
+    all_durable_later (placed W k) (placed Then k) catalog.tolerated (owns W k)
+    (owns Then k) (λ s. received W s k) (λ s. received Then s k) (G.own k) (G.places k) (λ s. G.more s k) d e fewer h
 
-module _ (catalog : Catalog) (homes : (oid : ObjId) → (home catalog oid).0 < catalog.sites) (W : Stands) (put : Put)
-    (A : AreAgreed catalog W put) (M : AreMarkedRight catalog W put) (i : SiteId) where
+module _ (catalog : Catalog) (homes : HasHomes catalog) (W : Stands) (put : Put)
+    (A : AreAgreed catalog W put) (M : AreMarkedRight catalog W put) (i : SiteId)
+    (within : (m : ℕ) (k : SiteId) → Contains (placed W i m) k → k.0 < catalog.sites) where
   -- the marks of what is known behind an event
   marks_by : (event : Event) → IsTakenRight i Taken event
       → ((j : SiteId) (number : ℕ) (packet : Packet) → event ≡ Given (Deliver j number packet) → put j i packet)
@@ -83,10 +86,10 @@ module _ (catalog : Catalog) (homes : (oid : ObjId) → (home catalog oid).0 < c
       let L = heard event Taken (W i).knows in
       subst (λ (z : Knowledge). AreDurableIn catalog W i (durable_mark catalog i z) × AreVisibleIn catalog W i
       (visible_mark catalog i z)) (sym is) (
-        durable_true catalog homes W (core_of catalog W put A) i L refl
+        durable_true catalog homes W (core_of catalog W put A) i within L refl
             (acknowledged_right catalog W W put put A (grown_none W) (λ j k packet p. p) i Taken event taken delivered)
             (M.marked.durables i),
-        visible_true catalog homes W (core_of catalog W put A) i L refl
+        visible_true catalog homes W (core_of catalog W put A) i within L refl
             (visible_right catalog W W put put A (grown_none W) (λ j k packet p. p) i Taken event taken delivered)
             (M.marked.visibles i),
       )
@@ -96,7 +99,7 @@ module _ (catalog : Catalog) (homes : (oid : ObjId) → (home catalog oid).0 < c
       → ((j : SiteId) (number : ℕ) (packet : Packet) → event ≡ Given (Deliver j number packet) → put j i packet)
       → IfSome rec (IsTrueIn catalog W i)
   true_of event rec outcome (is_refused client call refusal) puts = tt
-  true_of event rec outcome (starts client up none) puts = tt
+  true_of event rec outcome (starts client call up none asks) puts = tt
   true_of event rec outcome (does client call s update has is declared) puts = tt
   true_of event rec outcome (reads client call s reply has is) puts = tt
   true_of event rec outcome (ends client s has none) puts = tt
@@ -104,6 +107,7 @@ module _ (catalog : Catalog) (homes : (oid : ObjId) → (home catalog oid).0 < c
   true_of event rec outcome (conflicts client s conflict has first) puts = tt
   true_of event rec outcome (commits client s has some local clear) puts = tt
   true_of event rec outcome (begins client s has some clear) puts = tt
+  true_of event rec outcome (moves client container to may) puts = tt
   true_of event rec outcome (waits client s tx asked has undecided) puts = tt
   true_of event rec outcome (tells_version client s tx seq has done at) puts = tt
   true_of event rec outcome (tells_cause client s tx asked conflict has dropped said) puts = tt
@@ -111,6 +115,7 @@ module _ (catalog : Catalog) (homes : (oid : ObjId) → (home catalog oid).0 < c
   true_of event rec outcome (is_deciding client tid up) puts = tt
   true_of event rec outcome (is_running client tid up) puts = tt
   true_of event rec outcome (denies client tid up site issued none not_undecided not_open) puts = tt
+  true_of event rec outcome (tells_token client up) puts = tt
   true_of event rec outcome (passes event_) puts = tt
   true_of event rec outcome (receives j number seq tx peer next) puts = tt
   true_of event rec outcome (hears_ack j number got peer few) puts = tt
@@ -194,8 +199,9 @@ module _ (catalog : Catalog) (W Then : Stands) (put then_put : Put) (M : AreMark
     (so : IfSome rec (IsTrueIn catalog W i)) where
   still_true : (o : Option Record) → IfSome o (IsTrueIn catalog W i) → IfSome o (IsTrueIn catalog Then i)
   still_true None h = tt
-  still_true (Some r) h = record_later (home catalog) (sites catalog) catalog.tolerated (owns W) (owns Then) (received W)
-      (received Then) (counts W) (counts Then) G.own G.more G.done i r h
+  still_true (Some r) h = record_later (placed W) (placed Then) (sites catalog) catalog.tolerated (owns W) (owns Then)
+      (received W)
+      (received Then) (counts W) (counts Then) G.own G.places G.more G.done i r h
 
   durables_now : (k : SiteId)
       → ((Then k).knows.durable_floor ≤ (W k).knows.durable_floor) ⊎ AreDurableIn catalog Then k (Then k).knows.durable_floor
@@ -231,8 +237,9 @@ module _ (catalog : Catalog) (W Then : Stands) (put then_put : Put) (M : AreMark
       → ((r : Record) → (Then i).flight ≡ Some r → ((W i).flight ≡ Some r) ⊎ IsTrueIn catalog Then i r)
       → ((k : SiteId) → AreDurableIn catalog Then k ((Then i).knows.durable k)) → AreMarkedRight catalog Then then_put
   marked_on new flight told = record {
-    marked = marked_later (home catalog) (sites catalog) catalog.tolerated (owns W) (owns Then) (received W) (received Then)
-        (counts W) (counts Then) G.own G.more G.done
+    marked = marked_later (placed W) (placed Then) (sites catalog) catalog.tolerated (owns W) (owns Then) (received W)
+        (received Then)
+        (counts W) (counts Then) G.own G.places G.more G.done
         put then_put (λ k. (W k).knows.durable_floor) (λ k. (Then k).knows.durable_floor) (λ k. (W k).knows.visible_floor)
         (λ k. (Then k).knows.visible_floor)
         (λ k. (W k).flight) (λ k. (Then k).flight) M.marked new durables_now visibles_now
@@ -284,12 +291,13 @@ module _ (catalog : Catalog) (W Found : Stands) (put : Put) (A : AreAgreed catal
       ∙ settled_durable kept k in omega (arith, e)) (M.told i k))
 
 -- and what comes of a step
-module _ (catalog : Catalog) (homes : (oid : ObjId) → (home catalog oid).0 < catalog.sites) (W : Stands) (put : Put)
+module _ (catalog : Catalog) (homes : HasHomes catalog) (W : Stands) (put : Put)
     (A : AreAgreed catalog W put) (M : AreMarkedRight catalog W put)
     (alone : (k : SiteId) → IsAlone catalog k (W k)) (i : SiteId) (event : Event) (came : Came)
     (step : IsStep catalog i (W i) event came)
     (delivered : (j : SiteId) (number : ℕ) (packet : Packet) → event ≡ Given (Deliver j number packet) → put j i packet)
-    (Then : Stands) (here : Then i ≡ stands_after catalog i (W i) event came) (away : (k : SiteId) → k ≢ i → Then k ≡ W k)
+    (Then : Stands) (within : (m : ℕ) (k : SiteId) → Contains (placed Then i m) k → k.0 < catalog.sites)
+    (here : Then i ≡ stands_after catalog i (W i) event came) (away : (k : SiteId) → k ≢ i → Then k ≡ W k)
     (then_put : Put)
     (puts : (j k : SiteId) (packet : Packet) → put j k packet → then_put j k packet)
     (new : (j k : SiteId) (packet : Packet) → then_put j k packet → put j k packet ⊎
@@ -301,7 +309,7 @@ module _ (catalog : Catalog) (homes : (oid : ObjId) → (home catalog oid).0 < c
   recorded_now = step_recorded catalog homes W put A alone i event came step delivered Then here away then_put puts new
 
   wrote_so : IfSome came.wrote (IsTrueIn catalog W i)
-  wrote_so = wrote_true catalog homes W put A M i event delivered came step
+  wrote_so = wrote_true catalog homes W put A M i ((alone i).placed homes) event delivered came step
 
   wrote_is_due : IfSome came.wrote (IsDue catalog W put i)
   wrote_is_due = wrote_by catalog homes W put A alone i event came step delivered came step
@@ -321,7 +329,7 @@ module _ (catalog : Catalog) (homes : (oid : ObjId) → (home catalog oid).0 < c
   sent_true to (Dsmark durable) h =
       subst (λ d. AreDurableIn catalog Then i d) (sym h)
       (durable_true catalog homes Then (core_of catalog Then then_put
-      (agreed_after catalog homes W put A alone i event came step delivered Then here away then_put puts new)) i known_now same_lost
+      (agreed_after catalog homes W put A alone i event came step delivered Then here away then_put puts new)) i within known_now same_lost
       (acknowledged_right catalog W Then put then_put A grown_now puts i came.outcome event
       (step_taken catalog i (W i) event came step) delivered)
       (subst (λ (L : Knowledge). AreDurableIn catalog Then i L.durable_floor) same_lost
@@ -340,7 +348,7 @@ module _ (catalog : Catalog) (homes : (oid : ObjId) → (home catalog oid).0 < c
     | inl it ↦
         let said : AreDurableIn catalog W j durable = M.marked.packets j i (Dsmark durable)
         (deliver j number (Dsmark durable) refl) in
-        rw it.0 (durable_mark_true (home catalog) catalog.tolerated (owns Then k) (λ s. received Then s k)
+        rw it.0 (durable_mark_true (placed Then k) catalog.tolerated (owns Then k) (λ s. received Then s k)
         ((W i).knows.durable k) durable
         (durable_in_later catalog W Then grown_now k ((W i).knows.durable k) ((W i).knows.durable k) (omega arith)
         (M.told i k))
@@ -367,8 +375,9 @@ module _ (catalog : Catalog) (homes : (oid : ObjId) → (home catalog oid).0 < c
   flight_told None h r e = absurd cc
   flight_told (Some f) h r e =
       subst (λ z. IsTrueIn catalog Then i z) (same_Some f r e)
-      (record_later (home catalog) (sites catalog) catalog.tolerated (owns W) (owns Then) (received W) (received Then)
-      (counts W) (counts Then) grown_now.own grown_now.more grown_now.done i f h)
+      (record_later (placed W) (placed Then) (sites catalog) catalog.tolerated (owns W) (owns Then) (received W)
+      (received Then)
+      (counts W) (counts Then) grown_now.own grown_now.places grown_now.more grown_now.done i f h)
 
   pub marked_after : AreMarkedRight catalog Then then_put
   marked_after = marked_on catalog W Then put then_put M grown_now i came.wrote recorded_now wrote_is_due wrote_so
@@ -380,7 +389,7 @@ module _ (catalog : Catalog) (homes : (oid : ObjId) → (home catalog oid).0 < c
       (λ r e. elim (flight_cases came.flight came.wrote came.outcome (W i).flight r
       (sym (ap (λ (S : Standing). S.flight) here) ∙ e)) [
         | inl flying ↦ inr (flight_told came.flight
-            (flight_true catalog homes W put A M i event delivered came step) r flying)
+            (flight_true catalog homes W put A M i ((alone i).placed homes) event delivered came step) r flying)
         | inr old ↦ inl old.1
       ])
       durable_told

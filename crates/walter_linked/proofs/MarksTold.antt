@@ -1,27 +1,22 @@
 -- A mark of a site that has heard what is so is true.
-use Rattle.std.proofs.Common.{◌≡◌, ◌≢◌, ◌+◌, ◌-◌, ◌<◌, ◌≤◌, ℕ, zero, suc, nat_eq, nat_le, ◌&&◌, Bool, true, false, List, [], ◌∷◌, length, slice_get, Some, refl, ap, sym, ◌∙◌, subst, arith, inl, inr, if◌then◌else◌}
-use Rattle.std.specs.Prelude.{Contains, option_map, not}
+use Rattle.std.proofs.Common.{◌≡◌, ◌≢◌, ◌+◌, ◌-◌, ◌<◌, ◌≤◌, ℕ, zero, suc, nat_eq, nat_le, ◌&&◌, Bool, true, false, List, [], ◌∷◌, length, slice_get, Some, refl, ap, sym, subst, arith, inl, inr, if◌then◌else◌}
+use Rattle.std.specs.Prelude.{Contains, not}
 use Rattle.std.specs.List.{count_by}
-use Rattle.std.specs.Option.{option_map_or}
 use Rattle.std.proofs.lemmas.Bool.{eqb-true, leb-true, cases_order}
 use Rattle.walter_base.specs.declared.catalog.Catalog.{Catalog}
-use Rattle.walter_base.specs.declared.names.ObjId.{ObjId}
 use Rattle.walter_base.specs.declared.names.SiteId.{SiteId}
 use Rattle.walter_base.specs.Names.{same_site}
-use Rattle.walter_base.specs.Values.{object_of}
 use Rattle.walter_base.proofs.NameTests.{both}
-use Rattle.walter_rules.specs.declared.held.Held.{Held}
-use Rattle.walter_rules.specs.Knowledge.{Knowledge, preferred, sites, peers}
+use Rattle.walter_rules.specs.Knowledge.{Knowledge, sites, peers}
 use Rattle.walter_rules.specs.Learning.{lost}
-use Rattle.walter_rules.specs.Log.{commit_at}
 use Rattle.walter_rules.specs.Marks.{passed, holds, is_at_homes, is_held, is_visible, durable_mark, visible_mark}
-use Rattle.walter_rules.proofs.Membership.{each_passes, made_from, is_kept}
+use Rattle.walter_rules.proofs.Membership.{each_passes, is_kept}
 use Rattle.walter_agreement.specs.Marks.{IsDurable, AreDurable, AreVisible}
 use Rattle.walter_agreement.proofs.Cases.{site_cases, zero_or}
 use Rattle.walter_agreement.proofs.Marked.{durable_by_count, has_by_acks, visible_by_told, durable_mark_true, visible_mark_true, sites_below_distinct, site_below}
-use Rattle.walter_alone.proofs.Alone.{home}
+use Rattle.walter_alone.proofs.Alone.{HasHomes}
 use Rattle.walter_alone.proofs.Followed.{passed_within}
-use Rattle.walter_linked.proofs.Agreed.{Stands, owns, received, counts}
+use Rattle.walter_linked.proofs.Agreed.{Stands, owns, received, counts, placed}
 use Rattle.walter_linked.proofs.Recorded.{IsCore}
 
 -- what stands at a place within a list
@@ -47,41 +42,38 @@ passed_tests test (suc n) m one l =
       | false ↦ λ isnt low. passed_tests test n m one low
     ] refl l
 
-module _ (catalog : Catalog) (homes : (oid : ObjId) → (home catalog oid).0 < catalog.sites) (W : Stands)
-    (C : IsCore catalog W) (i : SiteId) (K : Knowledge) (same : lost (W i).knows ≡ lost K) where
+module _ (catalog : Catalog) (homes : HasHomes catalog) (W : Stands)
+    (C : IsCore catalog W) (i : SiteId) (within : (m : ℕ) (k : SiteId) → Contains (placed W i m) k
+    → k.0 < catalog.sites)
+    (K : Knowledge) (same : lost (W i).knows ≡ lost K) where
   -- own commit q, where it is held by so many as acknowledged it
   held_durable : ((k : SiteId) → k ≢ i → K.acknowledged k ≤ received W k i) → (q : ℕ) → 1 ≤ q → q ≤ K.committed i
       → is_held catalog i K q ≡ true
-      → IsDurable (home catalog) catalog.tolerated (owns W i) (λ s. received W s i) q
+      → IsDurable (placed W i) catalog.tolerated (owns W i) (λ s. received W s i) q
   held_durable acks q one low held =
       let parts = both (nat_le (catalog.tolerated + 1) (count_by (holds i K q) (sites catalog)))
-      (option_map_or (is_at_homes catalog i K q) (commit_at i q K.log) true) held in
+      (is_at_homes i K q) held in
       let full = C.numbered.own.counted i in
       let all = C.counted i i in
       let count : counts W i i ≡ K.committed i = ap (λ (L : Knowledge). L.committed i) same in
       let row = there_is (owns W i) (q - 1) (omega (arith, one, low, full, count)) in
-      let commit : commit_at i q K.log ≡ Some row.0.tx = ap (λ (L : Knowledge). commit_at i q L.log) (sym same)
-      ∙ ap (λ o. option_map (λ (h : Held). h.tx) o) row.1 in
-      let at : is_at_homes catalog i K q row.0.tx ≡ true = subst
-      (λ o. option_map_or (is_at_homes catalog i K q) o true ≡ true) commit parts.1 in
-      durable_by_count (home catalog) catalog.tolerated (owns W i) (λ s. received W s i) q (sites catalog)
+      let where_ : placed W i q ≡ K.placed q = ap (λ (L : Knowledge). L.placed q) same in
+      durable_by_count (placed W i) catalog.tolerated (owns W i) (λ s. received W s i) q (sites catalog)
       (holds i K q) row.0
       (sites_below_distinct catalog.sites)
       (has_by_acks i (λ s. received W s i) K.acknowledged q (omega (arith, low, full, count, all)) acks)
       row.1 (leb-true (catalog.tolerated + 1) (count_by (holds i K q) (sites catalog)) parts.0)
-      (λ oid c.
-      let made = made_from object_of row.0.tx.updates oid c in (
-        site_below catalog.sites (home catalog oid) (homes oid),
-        subst (λ o. holds i K q (home catalog o) ≡ true) made.2
-            (each_passes (λ update. holds i K q (preferred catalog K
-            (object_of update))) row.0.tx.updates made.0 at made.1),
+      (λ k c.
+      let there : Contains (K.placed q) k = subst (λ ks. Contains ks k) where_ c in (
+        site_below catalog.sites k (within q k c),
+        each_passes (holds i K q) (K.placed q) k parts.1 there,
       ))
 
   -- so the durable mark is true, where its floor is
   pub durable_true : ((k : SiteId) → k ≢ i → K.acknowledged k ≤ received W k i)
-      → AreDurable (home catalog) catalog.tolerated (owns W i) (λ s. received W s i) K.durable_floor
-      → AreDurable (home catalog) catalog.tolerated (owns W i) (λ s. received W s i) (durable_mark catalog i K)
-  durable_true acks floor = durable_mark_true (home catalog) catalog.tolerated (owns W i)
+      → AreDurable (placed W i) catalog.tolerated (owns W i) (λ s. received W s i) K.durable_floor
+      → AreDurable (placed W i) catalog.tolerated (owns W i) (λ s. received W s i) (durable_mark catalog i K)
+  durable_true acks floor = durable_mark_true (placed W i) catalog.tolerated (owns W i)
       (λ s. received W s i) K.durable_floor (passed (is_held catalog i K) (K.committed i)) floor
       (λ m one l. held_durable acks m one (let w = passed_within (is_held catalog i K) (K.committed i) in omega
       (arith, l, w)) (passed_tests (is_held catalog i K) (K.committed i) m one l))

@@ -7,7 +7,6 @@ use Rattle.std.proofs.lemmas.List.Elements.{Contains-append_cases, Contains-appe
 use Rattle.walter_base.specs.declared.catalog.Catalog.{Catalog}
 use Rattle.walter_base.specs.declared.containers.Container.{Container}
 use Rattle.walter_base.specs.declared.message.Record.{Record}
-use Rattle.walter_base.specs.declared.names.ObjId.{ObjId}
 use Rattle.walter_base.specs.declared.names.SiteId.{SiteId}
 use Rattle.walter_base.specs.declared.packet.Packet.{Packet}
 use Rattle.walter_base.proofs.NameTests.{same_site_refl}
@@ -23,23 +22,24 @@ use Rattle.walter_agreement.proofs.Cases.{site_cases, low_or}
 use Rattle.walter_agreement.proofs.CausalLogs.{causal_none}
 use Rattle.walter_agreement.proofs.FastNames.{none_fast}
 use Rattle.walter_agreement.proofs.Locks.{none_locked}
+use Rattle.walter_agreement.proofs.Moved.{none_moved}
 use Rattle.walter_agreement.proofs.Numbers.{numbered_none}
 use Rattle.walter_agreement.proofs.Owners.{none_owned}
 use Rattle.walter_agreement.proofs.Tidy.{tidy_at_first}
-use Rattle.walter_alone.proofs.Alone.{IsAlone, issued_of, home}
-use Rattle.walter_linked.proofs.Agreed.{Stands, at_site, owns, logs, counts, slows, parts, IsDue, AreAgreed}
+use Rattle.walter_alone.proofs.Alone.{IsAlone, issued_of, HasHomes}
+use Rattle.walter_linked.proofs.Agreed.{Stands, at_site, owns, logs, counts, slows, prefers, wants, parts, IsDue, AreAgreed}
 use Rattle.walter_linked.proofs.Going.{if_some, agreed_settled, step_wrote, step_flight, agreed_after}
 
--- where each container's preferred site is one of the sites, so is that of each object
+-- where each container's preferred site is one of the sites, so is that of each number
 pub homes_below : (catalog : Catalog) → 0 < catalog.sites
     → ((id : ℕ) (container : Container) → get catalog.containers id ≡ Some container
     → container.preferred.0 < catalog.sites)
-    → (oid : ObjId) → (home catalog oid).0 < catalog.sites
-homes_below catalog some all oid =
-    elim (get catalog.containers oid.container) as (λ o. get catalog.containers oid.container ≡ o →
+    → HasHomes catalog
+homes_below catalog some all id =
+    elim (get catalog.containers id) as (λ o. get catalog.containers id ≡ o →
     (option_map_or (λ (c : Container). c.preferred) o (record { 0 = 0 })).0 < catalog.sites) [
       | None ↦ λ e. some
-      | Some container ↦ λ e. all oid.container container e
+      | Some container ↦ λ e. all id container e
     ] refl
 
 -- a site that has no entry keeps what each keeps
@@ -49,11 +49,16 @@ alone_unmade catalog i = record {
   names = none_fast (λ c. None) (λ n. unmade.knows.slow n) (issued_of unmade);
   own_open = λ n t objs e. absurd cc;
   owners = none_owned unmade.knows.part unmade.knows.owner (λ j n. refl) (λ oid. refl);
-  here = λ j n t objs oid e. absurd cc;
+  listing = λ oid t e. absurd cc;
+  logged = λ h within. absurd (Contains-nil h within);
+  homes = λ whole container. whole container;
+  placed = λ whole m k within. absurd (Contains-nil k within);
   asked = λ n tx asked e. elim e [ inl undecided ↦ absurd cc | inr dropped ↦ absurd cc ];
+  written = λ n tx e. absurd cc;
   started = λ c s e. absurd cc;
   distinct = λ c d s t e. absurd cc;
   snapshots = λ c s e. absurd cc;
+  bare = λ c s e. absurd cc;
   outside = λ k out. (refl, refl);
   stopped = λ down. refl;
   booted = λ up. absurd cc;
@@ -125,8 +130,11 @@ agreed_at_first catalog = record {
   numbered = numbered_none;
   counted = λ i k. refl;
   causal = λ i. causal_none;
-  locked = none_locked (home catalog) (owns (stands catalog [])) (logs (stands catalog [])) (counts (stands catalog []))
-      (slows (stands catalog [])) (parts (stands catalog [])) (λ k. refl) (λ j n. refl) (λ p j n. refl);
+  locked = none_locked (prefers catalog (stands catalog [])) (owns (stands catalog [])) (logs (stands catalog []))
+      (counts (stands catalog [])) (slows (stands catalog [])) (wants (stands catalog [])) (parts (stands catalog []))
+      (λ k. refl) (λ j n. refl) (λ p j n. refl);
+  moved = none_moved (prefers catalog (stands catalog [])) (owns (stands catalog [])) (counts (stands catalog []))
+      (λ k. refl) (λ p q c. refl);
   said = λ j i packet apart put. absurd (Contains-nil (j, put.entry) put.here);
   heard = λ i. record {
     acknowledged = λ k apart. omega arith;
@@ -167,7 +175,7 @@ stands_away catalog older n k apart = ap (λ es. standing catalog k es) (entries
 
 -- Where each right trail keeps what each keeps by itself, before an entry and behind what it found, and objects are
 -- preferred at sites of the catalog:
-module _ (catalog : Catalog) (layouts : SiteId → Layout) (homes : (oid : ObjId) → (home catalog oid).0 < catalog.sites)
+module _ (catalog : Catalog) (layouts : SiteId → Layout) (homes : HasHomes catalog)
     (right_alone : (i : SiteId) → i.0 < catalog.sites → (older : List Entry) → AreRight catalog (layouts i) i older
     → IsAlone catalog i (standing catalog i older))
     (settled_alone : (i : SiteId) → i.0 < catalog.sites → (older : List Entry) (e : Entry)

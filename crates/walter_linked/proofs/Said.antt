@@ -12,7 +12,7 @@ use Rattle.walter_base.specs.declared.packet.Answer.TheVariants.{Yes, No, Later}
 use Rattle.walter_base.specs.declared.packet.Packet.{Packet}
 use Rattle.walter_base.specs.declared.packet.Packet.TheVariants.{Propagate, Ack, Dsmark, Visible, Prepare, Vote, Release, Released as ReleasedSaid}
 use Rattle.walter_base.specs.declared.transaction.Conflict.{Conflict}
-use Rattle.walter_base.specs.declared.transaction.Conflict.TheVariants.{Modified, Locked as LockedThere, Dead}
+use Rattle.walter_base.specs.declared.transaction.Conflict.TheVariants.{Modified, Locked as LockedThere, Dead, Moving}
 use Rattle.walter_base.specs.declared.transaction.Tx.{Tx}
 use Rattle.walter_base.specs.Conflicts.{sees_version, first_outside, conflict_over}
 use Rattle.walter_base.specs.Values.{write_set}
@@ -31,12 +31,11 @@ use Rattle.walter_rules.specs.Learning.{lost}
 use Rattle.walter_rules.specs.Log.{is_of, of_site, commit_at, version_of, wrote, row, sees}
 use Rattle.walter_rules.specs.Slow.{Decided, Locked, begun}
 use Rattle.walter_rules.proofs.Membership.{kept_from, made_from, first_given, first_given_by}
-use Rattle.walter_rules.proofs.RuleTests.{one_meets}
-use Rattle.walter_rules.proofs.WrittenObjects.{in_objects_at, objects_at_from}
+use Rattle.walter_rules.proofs.RuleTests.{one_meets_there, there_meets}
 use Rattle.walter_agreement.proofs.Cases.{site_cases, zero_or, not_unused, locked_not_free, locked_not_over, decided_not_open, object_in}
-use Rattle.walter_agreement.proofs.Lists.{prefix_get, filter_place, place_filtered}
+use Rattle.walter_agreement.proofs.Lists.{prefix_get, place_filtered}
 use Rattle.walter_alone.proofs.Alone.{IsAlone}
-use Rattle.walter_linked.proofs.Agreed.{Stands, Put, logs, owns, counts, slows, parts, AreOthers, IsOver, IsSo, AreAgreed}
+use Rattle.walter_linked.proofs.Agreed.{Stands, Put, logs, owns, counts, slows, wants, parts, AreOthers, IsOver, IsSo, AreAgreed}
 use Rattle.walter_linked.proofs.Grown.{HasGrown, over_later}
 use Rattle.walter_linked.proofs.Recorded.{IsCore, commit_held}
 
@@ -73,6 +72,16 @@ over_locked at oid None (Some t) tid is =
     let w : t ≡ tid = cc in
     (o, ap (λ z. Some z) w)
 over_locked at oid None None tid is = absurd cc
+
+-- nothing that stands in the way here says that an object is preferred elsewhere
+pub over_moving : (at oid : ObjId) (first : Option Version) (owner : Option Tid)
+    → conflict_over at first owner ≡ Some (Moving oid)
+    → ⊥
+over_moving at oid (Some v) owner is = absurd
+    (let e : Modified at v ≡ Moving oid = same_Some (Modified at v) (Moving oid) is in cc)
+over_moving at oid None (Some t) is = absurd
+    (let e : LockedThere at t ≡ Moving oid = same_Some (LockedThere at t) (Moving oid) is in cc)
+over_moving at oid None None is = absurd cc
 
 -- the first version outside is one of a transaction of the log that writes the object and isn't seen
 pub first_outside_held : (K : Knowledge) (snapshot : List ℕ) (oid : ObjId) (version : Version)
@@ -192,56 +201,70 @@ module _ (catalog : Catalog) (W : Stands) (put : Put) (A : AreAgreed catalog W p
             omega (arith, a, e, l, low))
       ]
 
+  -- what a begun slow commit wants it writes
+  asked_written : (to : SiteId) (n : ℕ) (x : Tx) → begun (slows W to n) ≡ Some x → (oid : ObjId)
+      → Contains (wants W to n i) oid
+      → Contains (write_set x.updates) oid
+  asked_written to n x is oid within = (alone to).written n x is i oid within
+
   -- what a PREPARE meets that asks for objects of a transaction stands in its way
   pub met_over : (event : Event) (to : SiteId) (n : ℕ) (conflict : Conflict) → to ≢ i
       → ((j : SiteId) (number : ℕ) (packet : Packet) → event ≡ Given (Deliver j number packet) → put j i packet)
-      → IsMet (W i).knows event to n conflict → (x : Tx) × (begun (slows W to n) ≡ Some x) × IsOver W x conflict
+      → IsMet catalog i (W i).knows event to n conflict → (x : Tx) × (begun (slows W to n) ≡ Some x)
+      × IsOver W x conflict
   met_over event to n conflict apart puts met =
       let so = A.said to i (Prepare n met.tid met.start met.objects) apart
       (puts to met.number (Prepare n met.tid met.start met.objects) met.came) in
       let x = so.0 in
-      let one = one_meets (W i).knows met.start met.objects conflict met.met in
-      let written : Contains (write_set x.updates) one.0 = (so.4 one.0 (so.5 one.0 one.1)).0 one.1 in (
+      let one = one_meets_there catalog i (W i).knows met.start met.objects conflict met.met in
+      let written : Contains (write_set x.updates) one.0 = asked_written to n x so.1 one.0
+      (subst (λ z. Contains z one.0) so.4 one.1) in (
         x,
         so.1,
-        elim conflict as (λ c. conflict_at (W i).knows met.start one.0 ≡ Some c
-            → IsOwnerUnseen (W i).knows met.start c → IsOver W x c) [
-              | Modified oid version ↦ λ is free.
-                  let over = over_modified one.0 oid (first_outside met.start (map version_of (row one.0 (logs W i))))
-                  ((W i).knows.owner one.0) version is in
-                  let held = first_outside_held (W i).knows met.start one.0 version over.1 in
-                  let own = held_own held.0 held.1 held.2 in
-                  let v : version_of held.0 ≡ version = held.3 in (
-                    subst (λ z. Contains (write_set x.updates) z) over.0 written,
-                    (
-                      held.0,
-                      subst (λ (z : Version). slice_get (owns W z.site) (z.seq - 1) ≡ Some held.0) v own.1,
-                      subst (λ (z : Version). 1 ≤ z.seq) v own.0,
-                      subst (λ z. Contains (write_set held.0.tx.updates) z) over.0 held.4,
-                      subst (λ s. sees s held.0 ≡ false) so.3 held.5,
-                    ),
-                  )
-              | LockedThere oid owner ↦ λ is unseen.
-                  let over = over_locked one.0 oid (first_outside met.start (map version_of (row one.0 (logs W i))))
-                  ((W i).knows.owner one.0) owner is in
-                  let lock = (alone i).owners.owned one.0 owner over.1 in
-                  let held = A.locked.held i lock.0 lock.1 owner lock.2 lock.3 in (
-                    subst (λ z. Contains (write_set x.updates) z) over.0 written,
-                    λ same.
-                        let tids : held.0.tid ≡ x.tid = sym held.2 ∙ same in
-                        let there = (alone to).tidy.named n x so.1 in
-                        let here = (alone lock.0).tidy.named lock.1 held.0 held.1 in
-                        let coordinator : lock.0 ≡ to = sym here.2 ∙ ap (λ (t : Tid). t.site) tids ∙ there.2 in
-                        let begun_there : begun (slows W to lock.1) ≡ Some held.0 = subst
-                        (λ z. begun (slows W z lock.1) ≡ Some held.0) coordinator held.1 in
-                        let number : lock.1 ≡ n = (alone to).tidy.apart lock.1 n held.0 x begun_there so.1 tids in
-                        locked_not_free (parts W i to n) owner lock.2
-                        (subst (λ z. parts W i z n ≡ Locked owner lock.2) coordinator
-                        (subst (λ m. parts W i lock.0 m ≡ Locked owner lock.2) number lock.3)) met.free,
-                    subst (λ v. AreOthers W v owner) so.3 (others_of met.start owner unseen),
-                  )
-              | Dead ↦ λ is unseen. tt
-            ] one.2 met.unseen,
+        elim (there_meets catalog i (W i).knows met.start one.0 (Some conflict) one.2) [
+          | inr gone ↦ subst (λ c. IsOver W x c) (same_Some (Moving one.0) conflict gone.1) written
+          | inl there ↦ elim conflict as (λ c. conflict_at (W i).knows met.start one.0 ≡ Some c
+              → IsOwnerUnseen (W i).knows met.start c → IsOver W x c) [
+                | Modified oid version ↦ λ is free.
+                    let over = over_modified one.0 oid (first_outside met.start
+                    (map version_of (row one.0 (logs W i))))
+                    ((W i).knows.owner one.0) version is in
+                    let held = first_outside_held (W i).knows met.start one.0 version over.1 in
+                    let own = held_own held.0 held.1 held.2 in
+                    let v : version_of held.0 ≡ version = held.3 in (
+                      subst (λ z. Contains (write_set x.updates) z) over.0 written,
+                      (
+                        held.0,
+                        subst (λ (z : Version). slice_get (owns W z.site) (z.seq - 1) ≡ Some held.0) v own.1,
+                        subst (λ (z : Version). 1 ≤ z.seq) v own.0,
+                        subst (λ z. Contains (write_set held.0.tx.updates) z) over.0 held.4,
+                        subst (λ s. sees s held.0 ≡ false) so.3 held.5,
+                      ),
+                    )
+                | LockedThere oid owner ↦ λ is unseen.
+                    let over = over_locked one.0 oid (first_outside met.start (map version_of (row one.0 (logs W i))))
+                    ((W i).knows.owner one.0) owner is in
+                    let lock = (alone i).owners.owned one.0 owner over.1 in
+                    let held = A.locked.held i lock.0 lock.1 owner lock.2 lock.3 in (
+                      subst (λ z. Contains (write_set x.updates) z) over.0 written,
+                      λ same.
+                          let tids : held.0.tid ≡ x.tid = sym held.2 ∙ same in
+                          let there = (alone to).tidy.named n x so.1 in
+                          let here = (alone lock.0).tidy.named lock.1 held.0 held.1 in
+                          let coordinator : lock.0 ≡ to = sym here.2 ∙ ap (λ (t : Tid). t.site) tids ∙ there.2 in
+                          let begun_there : begun (slows W to lock.1) ≡ Some held.0 = subst
+                          (λ z. begun (slows W z lock.1) ≡ Some held.0) coordinator held.1 in
+                          let number : lock.1 ≡ n = (alone to).tidy.apart lock.1 n held.0 x begun_there so.1 tids in
+                          locked_not_free (parts W i to n) owner lock.2
+                          (subst (λ z. parts W i z n ≡ Locked owner lock.2) coordinator
+                          (subst (λ m. parts W i lock.0 m ≡ Locked owner lock.2) number lock.3)) met.free,
+                      subst (λ v. AreOthers W v owner) so.3 (others_of met.start owner unseen),
+                    )
+                | Dead ↦ λ is unseen. tt
+                | Moving oid ↦ λ is unseen. absurd (over_moving one.0 oid
+                    (first_outside met.start (map version_of (row one.0 (logs W i)))) ((W i).knows.owner one.0) is)
+              ] there.1 met.unseen
+        ],
       )
 
   module _ (Then : Stands) (G : HasGrown W Then) (C : IsCore catalog Then) where
@@ -263,11 +286,7 @@ module _ (catalog : Catalog) (W : Stands) (put : Put) (A : AreAgreed catalog W p
       ap (λ (L : Knowledge). begun (L.slow n)) same ∙ ap begun h.2,
       h.3,
       h.4,
-      λ oid pr. (
-        λ c. (objects_at_from catalog K to h.0.updates oid (subst (λ z. Contains z oid) h.5 c)).0,
-        λ w. subst (λ z. Contains z oid) (sym h.5) (in_objects_at catalog K to h.0.updates oid w pr),
-      ),
-      λ oid c. (objects_at_from catalog K to h.0.updates oid (subst (λ z. Contains z oid) h.5 c)).1,
+      h.5 ∙ sym (ap (λ (L : Knowledge). L.wanted n to) same),
     )
     so_new event K to (Vote n Yes) apart same puts h =
         let lock : parts Then i to n ≡ Locked h.0 h.1 = ap (λ (L : Knowledge). L.part to n) same ∙ h.2 in
@@ -279,6 +298,9 @@ module _ (catalog : Catalog) (W : Stands) (put : Put) (A : AreAgreed catalog W p
     so_new event K to (Vote n (No (LockedThere oid owner))) apart same puts h =
         let over = met_over event to n (LockedThere oid owner) apart puts h in
         (over.0, G.begins to n over.0 over.1, over_later catalog W Then G over.0 (LockedThere oid owner) over.2)
+    so_new event K to (Vote n (No (Moving oid))) apart same puts h =
+        let over = met_over event to n (Moving oid) apart puts h in
+        (over.0, G.begins to n over.0 over.1, over_later catalog W Then G over.0 (Moving oid) over.2)
     so_new event K to (Vote n (No Dead)) apart same puts h =
         let end = C.locked.over i to n (ap (λ (L : Knowledge). L.part to n) same ∙ h) in
         (end.0, elim end.1 [ inl dropped ↦ ap begun dropped.1 | inr done ↦ ap begun done ], tt)

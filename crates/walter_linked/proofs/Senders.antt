@@ -1,5 +1,5 @@
 -- What a site propagates is its own: by its records each commit that it holds changes what the catalog has.
-use Rattle.std.proofs.Common.{◌≡◌, ◌≢◌, ◌<◌, ◌≤◌, ◌-◌, ℕ, Some, List, [], ◌∷◌, ◌++◌, reverse, refl, ap, sym, ◌∙◌, subst, inl, inr}
+use Rattle.std.proofs.Common.{◌≡◌, ◌≢◌, ◌-◌, ℕ, Some, List, [], ◌∷◌, ◌++◌, reverse, sym, subst, inl, inr}
 use Rattle.std.proofs.lemmas.Bool.{cases_lt}
 use Rattle.std.proofs.lemmas.List.Elements.{All-nil, All-push, All-filter, All-contains, filter_passes}
 use Rattle.std.specs.Prelude.{All, IsTrue, true}

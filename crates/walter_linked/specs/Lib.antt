@@ -1,3 +1,4 @@
 pub mod Catalogs
+pub mod Holders
 pub mod Marks
 pub mod Senders

@@ -11,7 +11,7 @@ use Rattle.walter_rules.specs.declared.event.Event.TheVariants.{Given}
 use Rattle.walter_rules.specs.declared.event.Input.TheVariants.{Call}
 use Rattle.walter_rules.specs.declared.held.Held.{Held}
 use Rattle.walter_rules.specs.declared.outcome.Outcome.TheVariants.{Replied}
-use Rattle.walter_rules.specs.Knowledge.{preferred, fresh, sites}
+use Rattle.walter_rules.specs.Knowledge.{sites}
 use Rattle.walter_rules.specs.Log.{of_site}
 use Rattle.walter_rules.specs.Merges.{Named}
 use Rattle.walter_rules.specs.Standing.{Standing}
@@ -22,9 +22,10 @@ use Rattle.walter_runs.specs.Runs.{stands}
 abbrev pub own_commits : (SiteId → Standing) → SiteId → List Held
 own_commits W j = of_site j (W j).knows.log
 
--- more sites than may be lost have commit m of site j, the preferred sites of all that it changed among them
+-- more sites than may be lost have commit m of site j; among them are the sites at which what it changed was preferred
+-- just before it, by what site j knew, and that to which it hands a container
 abbrev pub IsDurableBy : Catalog → (SiteId → Standing) → SiteId → ℕ → Type 0
-IsDurableBy catalog W j m = IsDurable (λ oid. preferred catalog fresh oid) catalog.tolerated (own_commits W j)
+IsDurableBy catalog W j m = IsDurable (W j).knows.placed catalog.tolerated (own_commits W j)
     (λ k. (W k).knows.got j) m
 
 -- each site of the catalog has committed it

@@ -4,5 +4,6 @@
 mod laws;
 
 pub use laws::{
-    built_catalogs_are_whole, holds_own_commits, marks_are_true, sites_propagate_their_own,
+    built_catalogs_are_whole, containers_are_held_once, holds_own_commits, marks_are_true,
+    sites_propagate_their_own,
 };

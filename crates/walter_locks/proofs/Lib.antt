@@ -4,3 +4,5 @@ pub mod Numbers
 pub mod Adding
 pub mod Marked
 pub mod Leaving
+pub mod Firsts
+pub mod Busy

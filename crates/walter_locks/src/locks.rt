@@ -4,13 +4,14 @@ ghost use Rattle.walter_base.specs.declared.names.ObjId.{ObjId as Object};
 ghost use Rattle.walter_base.specs.declared.names.SiteId.{SiteId as Site};
 ghost use Rattle.walter_base.specs.declared.names.Tid.{Tid as Owner};
 ghost use Rattle.walter_base.specs.Names.{same_site};
+ghost use Rattle.walter_locks.specs.Firsts.{IsFirstOwned};
 ghost use Rattle.walter_locks.specs.Parts.{part_of, owner_of, CanLock, CanRelease};
 ghost use Rattle.walter_rules.specs.Slow.{Free, Locked, Over, has_object, is_slow, does_lock, unlocked};
 
 use crate::dead::{is_among, make_room, mark, none_dead};
 use crate::intervals::Intervals;
 use crate::lock::{Lock, SlowId, drop_locks};
-use crate::owners::{disown, disown_all, own};
+use crate::owners::{disown, disown_all, first_owned, own};
 use indexmap::IndexMap;
 use std::alloc::Global;
 use std::marker::Model;
@@ -67,6 +68,13 @@ impl Locks {
             → Contains objects o → Contains others o → (j ≡ k) × (n ≡ m) }
     {
         self.owners.get(&oid).copied()
+    }
+
+    /// The first object of the container that is locked.
+    pub fn busy(&self, container: u32) -> Option<ObjId>
+        ensures { IsFirstOwned (owner_of self.now) container result }
+    {
+        first_owned(&self.owners, container)
     }
 
     /// Whether there is a lock of the slow commit.

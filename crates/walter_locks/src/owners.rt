@@ -1,10 +1,11 @@
 //! The owners of the objects that are locked.
 ghost use Rattle.std.specs.Prelude.{◌≡◌, ◌≤◌, ◌+◌, length, slice_get, false, Some, None, if◌then◌else◌};
-ghost use Rattle.std.specs.Map.{lookup};
+ghost use Rattle.std.specs.Map.{lookup, keys_of};
 ghost use Rattle.std.specs.Option.{option_map_or};
 ghost use Rattle.indexmap.specs.IndexMap.{spare};
 ghost use Rattle.walter_base.specs.declared.names.ObjId.{ObjId as Object};
 ghost use Rattle.walter_base.specs.Names.{same_object};
+ghost use Rattle.walter_locks.specs.Firsts.{earlier, first_from};
 ghost use Rattle.walter_locks.specs.Parts.{is_lock_by, is_locked_by};
 ghost use Rattle.walter_rules.specs.Slow.{has_object};
 
@@ -67,5 +68,43 @@ fn disown_at(
     };
     if id.coordinator == coordinator {
         disown(owners, lock.objects.as_slice());
+    }
+}
+
+/// Of the objects of the container that have owners the first.
+pub fn first_owned(owners: &IndexMap<ObjId, Tid>, container: u32) -> Option<ObjId>
+    ensures { result ≡ first_from container None (keys_of owners.now.entries) }
+{
+    let mut first = None;
+    for place in 0..owners.len() {
+        first = first_with(first, owners, place, container);
+    }
+    first
+}
+
+/// The first so far, or the object at a place.
+fn first_with(
+    first: Option<ObjId>,
+    owners: &IndexMap<ObjId, Tid>,
+    place: usize,
+    container: u32,
+) -> Option<ObjId>
+    ensures { result ≡ option_map_or (λ e. earlier container first e.0) (slice_get owners.now.entries place) first }
+{
+    match owners.get_index(place) {
+        Some((oid, _)) => earlier(first, *oid, container),
+        None => first,
+    }
+}
+
+/// The first so far, or this object where it is of the container and before that.
+fn earlier(first: Option<ObjId>, oid: ObjId, container: u32) -> Option<ObjId>
+    ensures { result ≡ earlier container first oid }
+{
+    match first {
+        None if oid.container == container => Some(oid),
+        None => None,
+        Some(found) if oid.container == container && oid.local < found.local => Some(oid),
+        Some(found) => Some(found),
     }
 }

@@ -1,13 +1,19 @@
 -- Bytes that end within a field are the front of a spelling: some more bytes, of zeros, would end it.
-use Rattle.std.proofs.Common.{◌≡◌, ◌≢◌, ℕ, ◌+◌, ◌-◌, ◌^◌, ◌<◌, ◌≤◌, List, [], ◌++◌, length, take, drop, replicate, refl, sym, ap, ◌∙◌, inl, inr, append_assoc, get_or, arith}
+use Rattle.std.proofs.Common.{◌≡◌, ◌≢◌, ℕ, zero, suc, ◌+◌, ◌*◌, ◌-◌, ◌^◌, ◌<◌, ◌≤◌, List, [], ◌∷◌, ◌++◌, length, take, drop, replicate, refl, sym, ap, ◌∙◌, inl, inr, append_assoc, get_or, arith}
+use Rattle.std.specs.Prelude.{All}
+use Rattle.std.specs.List.{AllByRecursion}
 use Rattle.std.proofs.lemmas.Bool.{cases_lt}
-use Rattle.std.proofs.lemmas.List.{length-append, length-take, length-drop, length-replicate, take-append-drop, get_or_append_left, get_or-append_right, get_or_past, get_or-replicate}
+use Rattle.std.proofs.lemmas.List.{length-append, length-take, length-drop, length-replicate, take-append-drop, get_or_append_left, get_or-append_right, get_or_past, get_or-replicate, nil_from_length}
+use Rattle.std.proofs.lemmas.List.Concat.{flat_map-cons}
+use Rattle.std.proofs.lemmas.List.Elements.{All-from_recursion}
 use Rattle.walter_base.specs.declared.names.ObjId.{ObjId}
+use Rattle.walter_base.specs.declared.names.SiteId.{SiteId}
 use Rattle.walter_fields.specs.Cursors.{LacksBlock}
 use Rattle.walter_fields.specs.Spellings.{IsBytes, number_spelled, number_read, block_spelled}
 use Rattle.walter_fields.proofs.Numbers.{number_read-lt, number_read-append, number_spelled-read}
 use Rattle.walter_fields.proofs.Readings.{IsBytes-take, IsBytes-drop}
-use Rattle.walter_names.specs.Names.{object_spelled, tid_spelled, version_spelled, member_spelled, IsObject, IsTid, IsVersion, IsMember}
+use Rattle.walter_names.specs.Names.{object_spelled, tid_spelled, version_spelled, member_spelled, move_spelled, persons_spelled, IsObject, IsTid, IsVersion, IsMember, IsMove, ArePersons}
+use Rattle.walter_names.specs.Vectors.{numbers_spelled}
 
 -- the front of the spelling of a value, of which the end is cut off
 pub record IsCut {A : Type 0} (Is : A → Type 0) (spelled : A → List ℕ) (left : List ℕ) : Type 0 where
@@ -73,6 +79,34 @@ cut_version left fits few =
       spells = two_numbers 1 8 whole bytes (filled 9 left few);
     }
 
+pub cut_move : (left : List ℕ) → IsBytes left → length left < 5 → IsCut (λ (m : ℕ × SiteId). IsMove m.0 m.1) (λ m. move_spelled m.0 m.1) left
+cut_move left fits few =
+    let whole = left ++ replicate (5 - length left) 0 in
+    let bytes : IsBytes whole = IsBytes-zeros left (5 - length left) fits in
+    let container = number_read-lt 4 (take 4 whole) (IsBytes-take 4 whole bytes) in
+    let to = number_read-lt 1 (drop 4 whole) (IsBytes-drop 4 whole bytes) in
+    record {
+      value = (number_read 4 (take 4 whole), record { 0 = number_read 1 (drop 4 whole) });
+      more = replicate (5 - length left) 0;
+      ranges = (omega (arith, container), omega (arith, to));
+      some = some_zeros (5 - length left) (omega arith);
+      spells = two_numbers 4 1 whole bytes (filled 5 left few);
+    }
+
+pub cut_persons : (left : List ℕ) → IsBytes left → length left < 16 → IsCut (λ (two : ℕ × ℕ). ArePersons two.0 two.1) (λ two. persons_spelled two.0 two.1) left
+cut_persons left fits few =
+    let whole = left ++ replicate (16 - length left) 0 in
+    let bytes : IsBytes whole = IsBytes-zeros left (16 - length left) fits in
+    let a = number_read-lt 8 (take 8 whole) (IsBytes-take 8 whole bytes) in
+    let b = number_read-lt 8 (drop 8 whole) (IsBytes-drop 8 whole bytes) in
+    record {
+      value = (number_read 8 (take 8 whole), number_read 8 (drop 8 whole));
+      more = replicate (16 - length left) 0;
+      ranges = (omega (arith, a), omega (arith, b));
+      some = some_zeros (16 - length left) (omega arith);
+      spells = two_numbers 8 8 whole bytes (filled 16 left few);
+    }
+
 pub cut_tid : (left : List ℕ) → IsBytes left → length left < 13 → IsCut IsTid tid_spelled left
 cut_tid left fits few =
     let whole = left ++ replicate (13 - length left) 0 in
@@ -111,6 +145,38 @@ cut_member left fits few =
       spells =
           sym (take-append-drop 12 whole) ∙ ap (λ t. t ++ drop 12 whole) (two_numbers 4 8 front front_bytes (omega (arith, length-take 12 whole)))
           ∙ ap (λ t. (number_spelled 4 (number_read 4 (take 4 front)) ++ number_spelled 8 (number_read 8 (drop 4 front))) ++ t) (sym (number_of_rest 12 8 whole bytes long));
+    }
+
+-- eight bytes for each are the spelling of so many numbers
+numbers_of : (count : ℕ) (bytes : List ℕ) → IsBytes bytes → length bytes ≡ 8 * count
+    → (v : List ℕ) × (length v ≡ count) × AllByRecursion (λ n. n < 2 ^ 64) v × (bytes ≡ numbers_spelled v)
+numbers_of zero bytes fits long = ([], refl, tt, nil_from_length bytes (omega (arith, long)))
+numbers_of (suc count) bytes fits long =
+    let others = numbers_of count (drop 8 bytes) (IsBytes-drop 8 bytes fits) (omega (arith, long, length-drop 8 bytes)) in
+    let n = number_read 8 (take 8 bytes) in
+    let low = number_read-lt 8 (take 8 bytes) (IsBytes-take 8 bytes fits) in (
+      n ∷ others.0,
+      omega (arith, others.1),
+      (omega (arith, low), others.2),
+      sym (take-append-drop 8 bytes) ∙ ap (λ t. t ++ drop 8 bytes) (sym (number_of_front 8 bytes fits (omega (arith, long))))
+          ∙ ap (λ t. number_spelled 8 n ++ t) others.3 ∙ sym (flat_map-cons (number_spelled 8) n others.0),
+    )
+
+-- so many numbers, in the ranges of their fields
+abbrev pub AreNumbers : ℕ → List ℕ → Type 0
+AreNumbers count v = (length v ≡ count) × All (λ n. n < 2 ^ 64) v
+
+pub cut_numbers : (count : ℕ) (left : List ℕ) → IsBytes left → length left < 8 * count → IsCut (AreNumbers count) numbers_spelled left
+cut_numbers count left fits few =
+    let whole = left ++ replicate (8 * count - length left) 0 in
+    let bytes : IsBytes whole = IsBytes-zeros left (8 * count - length left) fits in
+    let all = numbers_of count whole bytes (filled (8 * count) left few) in
+    record {
+      value = all.0;
+      more = replicate (8 * count - length left) 0;
+      ranges = (all.1, All-from_recursion (λ n. n < 2 ^ 64) all.0 all.2);
+      some = some_zeros (8 * count - length left) (omega (arith, few));
+      spells = all.3;
     }
 
 -- so many bytes as four bytes of length say, with zeros for those that lack

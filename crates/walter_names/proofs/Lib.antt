@@ -1,3 +1,4 @@
 pub mod Lengths
 pub mod Prefixes
 pub mod Cuts
+pub mod Numbers

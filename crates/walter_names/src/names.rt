@@ -1,7 +1,7 @@
 //! Names as bytes, field by field. Where bytes are wanting, the first fields of a name may have been read.
 ghost use Rattle.std.specs.Prelude.{◌≡◌, ◌↔◌, ◌+◌, ◌≤◌, ◌<◌, ◌++◌, length, IsErr, IfOk};
 ghost use Rattle.walter_fields.specs.Cursors.{Takes};
-ghost use Rattle.walter_names.specs.Names.{object_spelled, tid_spelled, version_spelled, member_spelled, IsObject, IsTid, IsVersion, IsMember};
+ghost use Rattle.walter_names.specs.Names.{object_spelled, tid_spelled, version_spelled, member_spelled, move_spelled, persons_spelled, IsObject, IsTid, IsVersion, IsMember, IsMove, ArePersons};
 
 use walter_base::{ObjId, SiteId, Tid, Version};
 use walter_fields::{Appender, Cursor, Short};
@@ -99,4 +99,44 @@ pub fn write_member(out: &mut Appender, oid: ObjId, id: u64)
 {
     write_object(out, oid);
     out.u64(id);
+}
+
+/// A container, and the site to which it is handed.
+#[tactic(auto, unfolding(walter_fields::specs::Spellings::number_spelled))]
+pub fn read_move(cursor: &mut Cursor) -> Result<(u32, SiteId), Short>
+    ensures taken { IfOk result (λ moved. Takes cursor.old cursor.new (move_spelled moved.0 moved.1)) }
+    ensures range { IfOk result (λ moved. IsMove moved.0 moved.1) }
+    ensures short { IsErr result ↔ (length cursor.old.left < 5) }
+{
+    Ok((cursor.u32()?, SiteId(cursor.u8()?)))
+}
+
+pub fn write_move(out: &mut Appender, container: u32, to: SiteId)
+    requires { 5 ≤ out.old.room }
+    ensures bytes { out.new.bytes ≡ out.old.bytes ++ move_spelled container to }
+    ensures room { out.new.room + 5 ≡ out.old.room }
+    ensures range { IsMove container to }
+{
+    out.u32(container);
+    out.u8(to.0);
+}
+
+/// Two persons.
+#[tactic(auto, unfolding(walter_fields::specs::Spellings::number_spelled))]
+pub fn read_persons(cursor: &mut Cursor) -> Result<(u64, u64), Short>
+    ensures taken { IfOk result (λ two. Takes cursor.old cursor.new (persons_spelled two.0 two.1)) }
+    ensures range { IfOk result (λ two. ArePersons two.0 two.1) }
+    ensures short { IsErr result ↔ (length cursor.old.left < 16) }
+{
+    Ok((cursor.u64()?, cursor.u64()?))
+}
+
+pub fn write_persons(out: &mut Appender, a: u64, b: u64)
+    requires { 16 ≤ out.old.room }
+    ensures bytes { out.new.bytes ≡ out.old.bytes ++ persons_spelled a b }
+    ensures room { out.new.room + 16 ≡ out.old.room }
+    ensures range { ArePersons a b }
+{
+    out.u64(a);
+    out.u64(b);
 }

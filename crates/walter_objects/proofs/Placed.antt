@@ -6,7 +6,7 @@ use Rattle.std.proofs.lemmas.Bool.Decides.{nat_tests}
 use Rattle.std.proofs.lemmas.Option.{same_Some}
 use Rattle.walter_base.specs.declared.names.ObjId.{ObjId}
 use Rattle.walter_base.specs.declared.update.Update.{Update}
-use Rattle.walter_base.specs.declared.update.Update.TheVariants.{Write, Add, Del}
+use Rattle.walter_base.specs.declared.update.Update.TheVariants.{Write, Add, Del, Move}
 use Rattle.walter_rules.specs.Objects.{precedes, with_object, objects_of}
 use Rattle.walter_rules.proofs.WrittenObjects.{one_object}
 use Rattle.walter_objects.specs.Onto.{place_in, objects_onto}
@@ -26,6 +26,7 @@ gathered_all [] = refl
 gathered_all (Write oid bytes ∷ us) = ap (with_object oid) (gathered_all us)
 gathered_all (Add oid id ∷ us) = gathered_all us
 gathered_all (Del oid id ∷ us) = gathered_all us
+gathered_all (Move container to ∷ us) = gathered_all us
 
 -- of two objects one comes first
 never_both : (a b : ObjId) → precedes a b ≡ true → precedes b a ≡ false

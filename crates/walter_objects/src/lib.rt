@@ -7,4 +7,4 @@ mod tests;
 
 pub use objects::objects_of;
 pub use preferred::{are_local, home, objects_at, participants};
-pub use tests::{are_declared, are_lockable, is_peer};
+pub use tests::{are_declared, are_regular, is_known, is_peer};

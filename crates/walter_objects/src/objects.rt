@@ -46,7 +46,7 @@ fn put_written(objects: &mut Vec<ObjId>, update: &Update) -> Mem<()>
 {
     match update {
         Update::Write(oid, _) => put(objects, *oid),
-        Update::Add(_, _) | Update::Del(_, _) => Ok(()),
+        Update::Add(_, _) | Update::Del(_, _) | Update::Move(_, _) => Ok(()),
     }
 }
 

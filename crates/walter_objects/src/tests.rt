@@ -1,7 +1,6 @@
 //! Whether updates, locks and sites fit the catalog.
 ghost use Rattle.std.specs.Prelude.{◌≡◌};
-ghost use Rattle.walter_objects.specs.Preferred.{is_lockable_at, are_lockable_at};
-ghost use Rattle.walter_rules.specs.Declarations.{is_of_kind, is_declared, are_declared};
+ghost use Rattle.walter_rules.specs.Declarations.{is_of_kind, is_known, is_declared, are_declared, are_regular};
 ghost use Rattle.walter_rules.specs.Deliveries.{is_peer};
 
 use walter_base::{Catalog, Kind, ObjId, SiteId, Update};
@@ -20,6 +19,7 @@ fn is_declared(catalog: &Catalog, update: &Update) -> bool
     match update {
         Update::Write(oid, _) => is_of_kind(catalog, Kind::Regular, *oid),
         Update::Add(oid, _) | Update::Del(oid, _) => is_of_kind(catalog, Kind::Cset, *oid),
+        Update::Move(container, to) => is_known(catalog, *container) && to.0 < catalog.sites,
     }
 }
 
@@ -30,18 +30,25 @@ pub fn are_declared(catalog: &Catalog, updates: &[Update]) -> bool
     updates.iter().all(|update| is_declared(catalog, update))
 }
 
-/// Whether the object is regular, and preferred at the site.
-fn is_lockable(catalog: &Catalog, site: SiteId, oid: ObjId) -> bool
-    ensures { result ≡ is_lockable_at catalog.now site oid }
+/// Whether all objects are regular.
+pub fn are_regular(catalog: &Catalog, objects: &[ObjId]) -> bool
+    ensures { result ≡ are_regular catalog.now objects.now }
 {
-    is_of_kind(catalog, Kind::Regular, oid) && catalog.preferred(oid).unwrap_or(SiteId(0)) == site
+    objects
+        .iter()
+        .all(|oid| is_of_kind(catalog, Kind::Regular, *oid))
 }
 
-/// Whether all objects are regular, and preferred at the site.
-pub fn are_lockable(catalog: &Catalog, site: SiteId, objects: &[ObjId]) -> bool
-    ensures { result ≡ are_lockable_at catalog.now site objects.now }
+/// Whether the container is in the catalog.
+pub fn is_known(catalog: &Catalog, container: u32) -> bool
+    ensures { result ≡ is_known catalog.now container }
 {
-    objects.iter().all(|oid| is_lockable(catalog, site, *oid))
+    catalog
+        .kind(ObjId {
+            container,
+            local: 0,
+        })
+        .is_some()
 }
 
 /// Whether it is another site of the catalog.

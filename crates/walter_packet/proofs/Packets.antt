@@ -11,7 +11,7 @@ use Rattle.walter_base.specs.declared.packet.Answer.{Answer}
 use Rattle.walter_base.specs.declared.packet.Answer.TheVariants.{Yes, No, Later}
 use Rattle.walter_base.specs.declared.packet.Packet.{Packet}
 use Rattle.walter_base.specs.declared.packet.Packet.TheVariants.{Propagate, Ack, Dsmark, Visible, Prepare, Vote, Release, Released}
-use Rattle.walter_base.specs.declared.transaction.Conflict.TheVariants.{Modified, Locked, Dead}
+use Rattle.walter_base.specs.declared.transaction.Conflict.TheVariants.{Modified, Locked, Dead, Moving}
 use Rattle.walter_base.specs.declared.transaction.Tx.{Tx}
 use Rattle.walter_fields.specs.Spellings.{number_spelled}
 use Rattle.walter_fields.proofs.Numbers.{length-number_spelled}
@@ -82,6 +82,7 @@ most_bytes (Vote slow Later) can = omega arith
 most_bytes (Vote slow (No (Modified oid version))) can = omega arith
 most_bytes (Vote slow (No (Locked oid owner))) can = omega arith
 most_bytes (Vote slow (No Dead)) can = omega arith
+most_bytes (Vote slow (No (Moving oid))) can = omega arith
 most_bytes (Release slow) can = omega arith
 most_bytes (Released slow) can = omega arith
 

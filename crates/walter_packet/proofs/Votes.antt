@@ -8,7 +8,7 @@ use Rattle.walter_base.specs.declared.names.Version.{Version}
 use Rattle.walter_base.specs.declared.packet.Answer.{Answer}
 use Rattle.walter_base.specs.declared.packet.Answer.TheVariants.{Yes, No, Later}
 use Rattle.walter_base.specs.declared.transaction.Conflict.{Conflict}
-use Rattle.walter_base.specs.declared.transaction.Conflict.TheVariants.{Modified, Locked, Dead}
+use Rattle.walter_base.specs.declared.transaction.Conflict.TheVariants.{Modified, Locked, Dead, Moving}
 use Rattle.walter_fields.specs.Spellings.{number_spelled}
 use Rattle.walter_fields.proofs.Numbers.{length-number_spelled}
 use Rattle.walter_names.specs.Names.{object_spelled, tid_spelled, version_spelled, IsObject, IsTid, IsVersion}
@@ -26,17 +26,20 @@ conflict_parts : (x : Conflict) → conflict_spelled x ≡ number_spelled 1 (con
 conflict_parts (Modified oid version) = append_assoc (number_spelled 1 1) (object_spelled oid) (version_spelled version)
 conflict_parts (Locked oid owner) = append_assoc (number_spelled 1 2) (object_spelled oid) (tid_spelled owner)
 conflict_parts Dead = sym (append-nil (number_spelled 1 4))
+conflict_parts (Moving oid) = refl
 
--- the kinds are 1, 2 and 4
-pub known_conflict : (kind : ℕ) → kind ≢ 1 → kind ≢ 2 → kind ≢ 4 → (x : Conflict) → conflict_kind x ≢ kind
-known_conflict kind not_1 not_2 not_4 (Modified oid version) is = not_1 (sym is)
-known_conflict kind not_1 not_2 not_4 (Locked oid owner) is = not_2 (sym is)
-known_conflict kind not_1 not_2 not_4 Dead is = not_4 (sym is)
+-- the kinds are 1, 2, 4 and 5
+pub known_conflict : (kind : ℕ) → kind ≢ 1 → kind ≢ 2 → kind ≢ 4 → kind ≢ 5 → (x : Conflict) → conflict_kind x ≢ kind
+known_conflict kind not_1 not_2 not_4 not_5 (Modified oid version) is = not_1 (sym is)
+known_conflict kind not_1 not_2 not_4 not_5 (Locked oid owner) is = not_2 (sym is)
+known_conflict kind not_1 not_2 not_4 not_5 Dead is = not_4 (sym is)
+known_conflict kind not_1 not_2 not_4 not_5 (Moving oid) is = not_5 (sym is)
 
 conflict_low : (x : Conflict) → conflict_kind x < 256
 conflict_low (Modified oid version) = omega arith
 conflict_low (Locked oid owner) = omega arith
 conflict_low Dead = omega arith
+conflict_low (Moving oid) = omega arith
 
 pub length-conflict_spelled : (x : Conflict) → length (conflict_spelled x) ≡ size_of_conflict x
 length-conflict_spelled (Modified oid version) =
@@ -44,6 +47,8 @@ length-conflict_spelled (Modified oid version) =
 length-conflict_spelled (Locked oid owner) =
     omega (arith, length-append (number_spelled 1 2 ++ object_spelled oid) (tid_spelled owner), length-append (number_spelled 1 2) (object_spelled oid), length-number_spelled 1 2, length-object_spelled oid, length-tid_spelled owner)
 length-conflict_spelled Dead = length-number_spelled 1 4
+length-conflict_spelled (Moving oid) =
+    omega (arith, length-append (number_spelled 1 5) (object_spelled oid), length-number_spelled 1 5, length-object_spelled oid)
 
 abbrev pub IsModified : ObjId × Version → Type 0
 IsModified = Both IsObject IsVersion
@@ -71,6 +76,9 @@ same_conflict (Locked o t) (Locked p u) x y kinds is_a is_b e =
     let same = free_locked.same (o, t) (p, u) x y is_a is_b e in
     ((λ i. Locked (same.0 i).0 (same.0 i).1), same.1)
 same_conflict Dead Dead x y kinds is_a is_b e = (refl, e)
+same_conflict (Moving o) (Moving p) x y kinds is_a is_b e =
+    let same = free_names.same o p x y is_a is_b e in
+    ((λ i. Moving (same.0 i)), same.1)
 same_conflict a b x y kinds is_a is_b e = absurd (omega (arith, kinds))
 
 pub conflict_kinds : HasKinds IsConflict conflict_kind conflict_fields conflict_spelled
@@ -93,8 +101,15 @@ no_locked kind left is none = record { none = each }
     each (Locked oid owner) rest of e = none.none (oid, owner) rest of.1 e
     each x rest of e = omega (arith, is, of.0)
 
-pub no_such_conflict : (kind : ℕ) (left : List ℕ) → kind ≢ 1 → kind ≢ 2 → kind ≢ 4 → NoConflict kind left
-no_such_conflict kind left not_1 not_2 not_4 = record { none = λ x rest of e. known_conflict kind not_1 not_2 not_4 x of.0 }
+pub no_moving : (kind : ℕ) (left : List ℕ) → kind ≡ 5 → NoneBegins IsObject object_spelled left → NoConflict kind left
+no_moving kind left is none = record { none = each }
+  where
+    each : (x : Conflict) (rest : List ℕ) → IsSuchOfKind IsConflict conflict_kind kind x → left ≢ conflict_fields x ++ rest
+    each (Moving oid) rest of e = none.none oid rest of.1 e
+    each x rest of e = omega (arith, is, of.0)
+
+pub no_such_conflict : (kind : ℕ) (left : List ℕ) → kind ≢ 1 → kind ≢ 2 → kind ≢ 4 → kind ≢ 5 → NoConflict kind left
+no_such_conflict kind left not_1 not_2 not_4 not_5 = record { none = λ x rest of e. known_conflict kind not_1 not_2 not_4 not_5 x of.0 }
 
 -- ---- answers
 

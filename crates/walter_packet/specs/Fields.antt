@@ -9,7 +9,7 @@ use Rattle.walter_base.specs.declared.packet.Answer.TheVariants.{Yes, No, Later}
 use Rattle.walter_base.specs.declared.packet.Packet.{Packet}
 use Rattle.walter_base.specs.declared.packet.Packet.TheVariants.{Propagate, Ack, Dsmark, Visible, Prepare, Vote, Release, Released}
 use Rattle.walter_base.specs.declared.transaction.Conflict.{Conflict}
-use Rattle.walter_base.specs.declared.transaction.Conflict.TheVariants.{Modified, Locked, Dead}
+use Rattle.walter_base.specs.declared.transaction.Conflict.TheVariants.{Modified, Locked, Dead, Moving}
 use Rattle.walter_fields.specs.Spellings.{number_spelled}
 use Rattle.walter_names.specs.Names.{object_spelled, tid_spelled, version_spelled, IsTid}
 use Rattle.walter_txcode.specs.Spelling.{spelling, vector_spelled, objects_spelled, AreSpelledObjects}
@@ -19,11 +19,13 @@ abbrev pub conflict_kind : Conflict → ℕ
 conflict_kind (Modified oid version) = 1
 conflict_kind (Locked oid owner) = 2
 conflict_kind Dead = 4
+conflict_kind (Moving oid) = 5
 
 abbrev pub conflict_fields : Conflict → List ℕ
 conflict_fields (Modified oid version) = object_spelled oid ++ version_spelled version
 conflict_fields (Locked oid owner) = object_spelled oid ++ tid_spelled owner
 conflict_fields Dead = []
+conflict_fields (Moving oid) = object_spelled oid
 
 abbrev pub answer_kind : Answer → ℕ
 answer_kind Yes = 1

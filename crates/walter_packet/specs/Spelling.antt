@@ -7,7 +7,7 @@ use Rattle.walter_base.specs.declared.packet.Answer.TheVariants.{Yes, No, Later}
 use Rattle.walter_base.specs.declared.packet.Packet.{Packet}
 use Rattle.walter_base.specs.declared.packet.Packet.TheVariants.{Propagate, Ack, Dsmark, Visible, Prepare, Vote, Release, Released}
 use Rattle.walter_base.specs.declared.transaction.Conflict.{Conflict}
-use Rattle.walter_base.specs.declared.transaction.Conflict.TheVariants.{Modified, Locked, Dead}
+use Rattle.walter_base.specs.declared.transaction.Conflict.TheVariants.{Modified, Locked, Dead, Moving}
 use Rattle.walter_fields.specs.Spellings.{number_spelled}
 use Rattle.walter_names.specs.Names.{object_spelled, tid_spelled, version_spelled, IsObject, IsTid, IsVersion}
 use Rattle.walter_txcode.specs.Spelling.{spelling, vector_spelled, objects_spelled, IsInRange}
@@ -16,6 +16,7 @@ abbrev pub conflict_spelled : Conflict → List ℕ
 conflict_spelled (Modified oid version) = number_spelled 1 1 ++ object_spelled oid ++ version_spelled version
 conflict_spelled (Locked oid owner) = number_spelled 1 2 ++ object_spelled oid ++ tid_spelled owner
 conflict_spelled Dead = number_spelled 1 4
+conflict_spelled (Moving oid) = number_spelled 1 5 ++ object_spelled oid
 
 abbrev pub answer_spelled : Answer → List ℕ
 answer_spelled Yes = number_spelled 1 1
@@ -39,6 +40,7 @@ abbrev pub IsConflict : Conflict → Type 0
 IsConflict (Modified oid version) = IsObject oid × IsVersion version
 IsConflict (Locked oid owner) = IsObject oid × IsTid owner
 IsConflict Dead = Unit {0}
+IsConflict (Moving oid) = IsObject oid
 
 abbrev pub IsAnswer : Answer → Type 0
 IsAnswer Yes = Unit {0}

@@ -31,6 +31,10 @@ fn read_conflict_fields(cursor: &mut Cursor, kind: u8) -> Result<Conflict, Decod
             Ok(Conflict::Locked { oid, owner })
         }
         4 => Ok(Conflict::Dead),
+        5 => {
+            let oid = read_object(cursor)?;
+            Ok(Conflict::Moving { oid })
+        }
         _ => Err(DecodeFault::Unspelled),
     }
 }
@@ -95,6 +99,7 @@ pub(crate) fn size_of_conflict(conflict: Conflict) -> usize
         Conflict::Modified { oid: _, version: _ } => 22,
         Conflict::Locked { oid: _, owner: _ } => 26,
         Conflict::Dead => 1,
+        Conflict::Moving { oid: _ } => 13,
     }
 }
 
@@ -115,6 +120,10 @@ fn write_conflict(out: &mut Appender, conflict: Conflict)
             write_tid(out, owner);
         }
         Conflict::Dead => out.u8(4),
+        Conflict::Moving { oid } => {
+            out.u8(5);
+            write_object(out, oid);
+        }
     }
 }
 

@@ -6,7 +6,7 @@ use Rattle.walter_base.specs.declared.names.SiteId.{SiteId}
 use Rattle.walter_base.specs.declared.names.Tid.{Tid}
 use Rattle.walter_base.specs.declared.names.Version.{Version}
 use Rattle.walter_base.specs.declared.transaction.Cause.{Cause}
-use Rattle.walter_base.specs.declared.transaction.Cause.TheVariants.{Modified, Locked, Asked}
+use Rattle.walter_base.specs.declared.transaction.Cause.TheVariants.{Modified, Locked, Asked, Moving}
 use Rattle.walter_base.specs.declared.update.Update.{Update}
 use Rattle.walter_base.specs.Values.{value_of, count_of, AreCounts, write_set, DoConflict}
 use Rattle.walter_psi.specs.declared.step.Answer.{Answer}
@@ -52,6 +52,7 @@ IsCauseOfAbort x steps Asked = Unit {0}
 IsCauseOfAbort x steps (Modified oid version) = Contains (write_set (own_updates x steps)) oid × IsOutside x steps oid version
 IsCauseOfAbort x steps (Locked oid owner) =
     Contains (write_set (own_updates x steps)) oid × (owner ≢ x) × ¬ Contains (snapshot x steps) owner
+IsCauseOfAbort x steps (Moving oid) = Contains (write_set (own_updates x steps)) oid
 
 -- what was told of a transaction is so
 abbrev pub IsTrueNotice : Tid → List Step → Notice → Type 0

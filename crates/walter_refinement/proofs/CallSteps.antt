@@ -1,5 +1,5 @@
 -- The entries of clients' calls that bring no record keep what is known of the history.
-use Rattle.std.proofs.Common.{◌≡◌, ◌≢◌, ℕ, zero, suc, ◌<◌, List, [], ◌∷◌, ◌++◌, refl, ap, sym, ◌∙◌, subst, arith, Some, None, true, inl, inr, ◌⊎◌}
+use Rattle.std.proofs.Common.{◌≡◌, ◌≢◌, ℕ, zero, suc, ◌<◌, List, [], ◌∷◌, ◌++◌, map, refl, ap, sym, ◌∙◌, subst, arith, Some, None, true, inl, inr, ◌⊎◌}
 use Rattle.std.specs.Prelude.{Option, Result}
 use Rattle.std.proofs.lemmas.Option.{same_Some}
 use Rattle.walter_base.specs.declared.catalog.Catalog.{Catalog}
@@ -7,7 +7,7 @@ use Rattle.walter_base.specs.declared.message.BadFrame.{BadFrame}
 use Rattle.walter_base.specs.declared.message.Record.{Record}
 use Rattle.walter_base.specs.declared.message.Refusal.{Refusal}
 use Rattle.walter_base.specs.declared.message.Reply.{Reply}
-use Rattle.walter_base.specs.declared.message.Reply.TheVariants.{Started, Done, Aborted, Deciding, Ended, Refused}
+use Rattle.walter_base.specs.declared.message.Reply.TheVariants.{Started, Done, Aborted, Deciding, Ended, Token, Refused}
 use Rattle.walter_base.specs.declared.message.Request.{Request}
 use Rattle.walter_base.specs.declared.names.ObjId.{ObjId}
 use Rattle.walter_base.specs.declared.names.SiteId.{SiteId}
@@ -26,9 +26,9 @@ use Rattle.walter_rules.specs.declared.outcome.Outcome.TheVariants.{Replied}
 use Rattle.walter_rules.specs.Allowed.{HasOpen}
 use Rattle.walter_rules.specs.Calls.{next_tid, read_updates}
 use Rattle.walter_rules.specs.Knowledge.{session_of, vector_of}
-use Rattle.walter_rules.specs.Learning.{deciding, updated}
+use Rattle.walter_rules.specs.Learning.{deciding, updates_asked, updated}
 use Rattle.walter_rules.specs.Sending.{Send}
-use Rattle.walter_rules.specs.Sessions.{Session, session_in, with_update}
+use Rattle.walter_rules.specs.Sessions.{Session, session_in, with_updates}
 use Rattle.walter_rules.specs.Standing.{Standing}
 use Rattle.walter_agreement.proofs.Issued.{IsIssued, next_not_issued}
 use Rattle.walter_agreement.proofs.Numbers.{IsLogOf}
@@ -36,10 +36,10 @@ use Rattle.walter_alone.proofs.Alone.{IsAlone, issued_of, issued_by}
 use Rattle.walter_linked.proofs.Agreed.{Stands, Put, logs, owns, counts, at_site, AreAgreed}
 use Rattle.walter_refinement.specs.Spelled.{recorded, answered, of_session, aborted, did}
 use Rattle.walter_refinement.proofs.AnyWriter.{read_any, snapshot_within}
-use Rattle.walter_refinement.proofs.Entries.{IsFewer, did_op, did_read, did_abort, did_start}
+use Rattle.walter_refinement.proofs.Entries.{IsFewer, did_ops, did_read, did_abort, did_start}
 use Rattle.walter_refinement.proofs.Going.{IsQuiet, quiet_by, then_, same_then, final_then}
 use Rattle.walter_refinement.proofs.Keys.{opened_cases, changed_cases, without_cases, with_by, without_by}
-use Rattle.walter_refinement.proofs.Moves.{in_flight, held_by, held, numbers, spent, at_here, higher, Spells, GoesOn, stepped, begins_new, fewer_held}
+use Rattle.walter_refinement.proofs.Moves.{in_flight, held_by, held, numbers, spent, at_here, higher, Spells, GoesOn, stepped, stepped_on, none_by_ops, begins_new, fewer_held}
 use Rattle.walter_refinement.proofs.Quiet.{issued_same, live_open, quiet_entry}
 use Rattle.walter_refinement.proofs.Spelled.{Key, IsLive, IsSpelledAt}
 use Rattle.walter_refinement.proofs.Vectors.{vector_is}
@@ -66,14 +66,21 @@ module _ (catalog : Catalog) (i : SiteId) (W : Stands) (put : Put) (h : List Ste
       (Replied reply) kept None None sends dropped none tt tt issued sessions flights sp
 
   pub refused : (refusal : Refusal) → Spells (at_site i (replied_so (Refused refusal)) W)
-      (h ++ (recorded W i None ++ answered i (W i) (Replied (Refused refusal)) (Given (Call client call))))
+      (h ++ (recorded W i None ++ answered catalog.friends i (W i) None (Replied (Refused refusal)) (Given (Call client call))))
   refused refusal = nothing (Refused refusal) [] refl
       (λ x g. issued_same (W i).up (W i).knows (replied_so (Refused refusal)).knows x refl (omega arith) g)
       (λ c s has. has) (λ s has. has)
 
+  -- a token
+  pub token_told : (token : List ℕ) → Spells (at_site i (replied_so (Token token)) W)
+      (h ++ (recorded W i None ++ answered catalog.friends i (W i) None (Replied (Token token)) (Given (Call client call))))
+  token_told token = nothing (Token token) [] refl
+      (λ x g. issued_same (W i).up (W i).knows (replied_so (Token token)).knows x refl (omega arith) g)
+      (λ c s has. has) (λ s has. has)
+
   -- a Commit that still waits
   pub waits_on : (tid : Tid) → Spells (at_site i (replied_so (Deciding tid)) W)
-      (h ++ (recorded W i None ++ answered i (W i) (Replied (Deciding tid)) (Given (Call client call))))
+      (h ++ (recorded W i None ++ answered catalog.friends i (W i) None (Replied (Deciding tid)) (Given (Call client call))))
   waits_on tid =
       nothing (Deciding tid) [] refl (λ x g. issued_same (W i).up (W i).knows (replied_so (Deciding tid)).knows x refl
       (omega arith) g)
@@ -102,7 +109,7 @@ module _ (catalog : Catalog) (i : SiteId) (W : Stands) (put : Put) (h : List Ste
 
   -- the end of a transaction without updates
   pub ended : Spells (at_site i (replied_so Ended) W)
-      (h ++ (recorded W i None ++ answered i (W i) (Replied Ended) (Given (Call client call))))
+      (h ++ (recorded W i None ++ answered catalog.friends i (W i) None (Replied Ended) (Given (Call client call))))
   ended =
       nothing Ended [] refl (λ x g. issued_same (W i).up (W i).knows (replied_so Ended).knows x refl (omega arith) g)
       (λ c s has. (without_cases client c s (W i).knows.sessions has).1) (λ s has. has)
@@ -111,12 +118,13 @@ module _ (catalog : Catalog) (i : SiteId) (W : Stands) (put : Put) (h : List Ste
   pub aborted_so : (s : Session) (cause : Cause) → session_of (W i).knows client ≡ Some s
       → IsLive (owns W) (counts W) h s → IsCauseOfAbort s.tid h cause
       → Spells (at_site i (replied_so (Aborted cause)) W)
-      (h ++ (recorded W i None ++ answered i (W i) (Replied (Aborted cause)) (Given (Call client call))))
+      (h ++ (recorded W i None ++ answered catalog.friends i (W i) None (Replied (Aborted cause)) (Given (Call client call))))
   aborted_so s cause has live is =
       let S2 = replied_so (Aborted cause) in
       let q = goes_closed (Aborted cause) refl refl (λ x g. issued_same (W i).up (W i).knows S2.knows x refl
       (omega arith) g) in
-      let spelled : answered i (W i) (Replied (Aborted cause)) (Given (Call client call)) ≡ Abort s.tid cause ∷ [] =
+      let spelled : answered catalog.friends i (W i) None (Replied (Aborted cause))
+      (Given (Call client call)) ≡ Abort s.tid cause ∷ [] =
       ap (λ o. of_session (aborted cause) o) has in
       subst (λ t. Spells (at_site i S2 W) (h ++ t)) (sym spelled)
       (stepped W i S2 h (Abort s.tid cause) (λ x us e. absurd cc)
@@ -126,22 +134,23 @@ module _ (catalog : Catalog) (i : SiteId) (W : Stands) (put : Put) (h : List Ste
       (record { site = i; who = suc client }) s cause (held (at_site i S2 W)) has live
       (without_by W i S2 (suc client) (without_mine (Aborted cause) refl refl)) is) sp)
 
-  -- an update, of an open session
-  pub done_so : (s : Session) (update : Update) → HasOpen (W i) client s → updated call s ≡ with_update update s
-      → did call s ≡ Op s.tid update ∷ []
+  -- updates, of an open session
+  pub done_so : (s : Session) (updates : List Update) → HasOpen (W i) client s
+      → updates_asked catalog.friends call ≡ updates
       → Spells (at_site i (replied_so Done) W)
-      (h ++ (recorded W i None ++ answered i (W i) (Replied Done) (Given (Call client call))))
-  done_so s update open_ becomes does =
+      (h ++ (recorded W i None ++ answered catalog.friends i (W i) None (Replied Done) (Given (Call client call))))
+  done_so s updates open_ asked =
       let S2 = replied_so Done in
-      let mine : (w : ℕ) (t : Session) → held_by w S2 ≡ Some t → ((suc client ≡ w) × (with_update update s ≡ t))
+      let mine : (w : ℕ) (t : Session) → held_by w S2 ≡ Some t → ((suc client ≡ w) × (with_updates updates s ≡ t))
       ⊎ ((suc client ≢ w) × (held_by w (W i) ≡ Some t)) = λ w t has. elim w as
-      (λ w. held_by w S2 ≡ Some t → ((suc client ≡ w) × (with_update update s ≡ t))
+      (λ w. held_by w S2 ≡ Some t → ((suc client ≡ w) × (with_updates updates s ≡ t))
       ⊎ ((suc client ≢ w) × (held_by w (W i) ≡ Some t))) [
         | zero ↦ λ now. inr (λ e. omega (arith, e), now)
-        | suc c ↦ λ now. elim (changed_cases client c (updated call) s t (W i).knows.sessions open_.session now) [
-          | inl here ↦ inl (ap (λ n. suc n) here.0, sym becomes ∙ here.1)
-          | inr away ↦ inr (λ e. away.0 (omega (arith, e)), away.1)
-        ]
+        | suc c ↦ λ now. elim (changed_cases client c (updated catalog.friends call) s t
+            (W i).knows.sessions open_.session now) [
+              | inl here ↦ inl (ap (λ n. suc n) here.0, ap (λ us. with_updates us s) (sym asked) ∙ here.1)
+              | inr away ↦ inr (λ e. away.0 (omega (arith, e)), away.1)
+            ]
       ] has in
       let old : (w : ℕ) (t : Session) → held_by w S2 ≡ Some t → (u : Session) × (held_by w (W i) ≡ Some u)
       × (u.tid ≡ t.tid) = λ w t has. elim (mine w t has) [
@@ -159,23 +168,24 @@ module _ (catalog : Catalog) (i : SiteId) (W : Stands) (put : Put) (h : List Ste
         lost = λ n tx asked is. is;
         done = λ n tx is. is;
       } in
-      let spelled : answered i (W i) (Replied Done) (Given (Call client call)) ≡ Op s.tid update ∷ [] =
-      ap (λ o. of_session (did call) o) open_.session ∙ does in
+      let spelled : answered catalog.friends i (W i) None (Replied Done) (Given (Call client call))
+      ≡ map (λ u. Op s.tid u) updates =
+      ap (λ o. of_session (did catalog.friends call) o) open_.session ∙ ap (λ us. map (λ u. Op s.tid u) us) asked in
       subst (λ t. Spells (at_site i S2 W) (h ++ t)) (sym spelled)
-      (stepped W i S2 h (Op s.tid update) (λ x us e. absurd cc)
+      (stepped_on W i S2 h (map (λ u. Op s.tid u) updates) (none_by_ops W i S2 h s.tid updates)
       (same_then catalog i (W i) (Given (Call client call)) (Replied Done) kept None None sends dropped tt) on old
-      (did_op (owns W) (counts W) (numbers W) (held W) (spent W) h sp.spelled
-      (record { site = i; who = suc client }) s update (held (at_site i S2 W)) open_.session (open_live s open_)
-      (with_by W i S2 (suc client) (with_update update s) mine)) sp)
+      (did_ops (owns W) (counts W) (numbers W) (held W) (spent W) h sp.spelled
+      (record { site = i; who = suc client }) s updates (held (at_site i S2 W)) open_.session (open_live s open_)
+      (with_by W i S2 (suc client) (with_updates updates s) mine)) sp)
 
   -- a step that tells or reads something, where nothing that is held changes
   pub seen_so : (reply : Reply) (step : Step) → ((x : Tid) (us : List Update) → step ≢ Commit x us)
-      → answered i (W i) (Replied reply) (Given (Call client call)) ≡ step ∷ []
+      → answered catalog.friends i (W i) None (Replied reply) (Given (Call client call)) ≡ step ∷ []
       → IsQuiet (W i) (replied_so reply)
       → ((after : Key → Option Session) → IsFewer (held W) after → IsSpelledAt (owns W) (counts W) (numbers W) after
       (spent W) (h ++ step ∷ []))
       → Spells (at_site i (replied_so reply) W)
-      (h ++ (recorded W i None ++ answered i (W i) (Replied reply) (Given (Call client call))))
+      (h ++ (recorded W i None ++ answered catalog.friends i (W i) None (Replied reply) (Given (Call client call))))
   seen_so reply step plain spelled q does =
       let S2 = replied_so reply in
       subst (λ t. Spells (at_site i S2 W) (h ++ t)) (sym spelled)
@@ -196,10 +206,10 @@ module _ (catalog : Catalog) (i : SiteId) (W : Stands) (put : Put) (h : List Ste
   -- what a session reads
   pub read_so : (s : Session) (oid : ObjId) (a : Answer) (reply : Reply) → HasOpen (W i) client s
       → IsAnswer oid (read_updates (W i).knows s) a
-      → answered i (W i) (Replied reply) (Given (Call client call)) ≡ Read s.tid oid a ∷ []
+      → answered catalog.friends i (W i) None (Replied reply) (Given (Call client call)) ≡ Read s.tid oid a ∷ []
       → IsQuiet (W i) (replied_so reply)
       → Spells (at_site i (replied_so reply) W)
-      (h ++ (recorded W i None ++ answered i (W i) (Replied reply) (Given (Call client call))))
+      (h ++ (recorded W i None ++ answered catalog.friends i (W i) None (Replied reply) (Given (Call client call))))
   read_so s oid a reply open_ answer spelled q =
       let live = open_live s open_ in
       let here : s.tid.site ≡ i = sp.spelled.home (record { site = i; who = suc client }) s open_.session in
@@ -213,7 +223,7 @@ module _ (catalog : Catalog) (i : SiteId) (W : Stands) (put : Put) (h : List Ste
   -- a transaction starts
   pub started_so : (W i).up ≡ true → i.0 < catalog.sites → session_of (W i).knows client ≡ None
       → Spells (at_site i (replied_so (Started (next_tid i (W i).knows))) W)
-      (h ++ (recorded W i None ++ answered i (W i) (Replied (Started (next_tid i (W i).knows)))
+      (h ++ (recorded W i None ++ answered catalog.friends i (W i) None (Replied (Started (next_tid i (W i).knows)))
       (Given (Call client call))))
   started_so up below none =
       let x = next_tid i (W i).knows in

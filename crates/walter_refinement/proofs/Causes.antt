@@ -8,7 +8,7 @@ use Rattle.walter_base.specs.declared.names.SiteId.{SiteId}
 use Rattle.walter_base.specs.declared.names.Tid.{Tid}
 use Rattle.walter_base.specs.declared.names.Version.{Version}
 use Rattle.walter_base.specs.declared.transaction.Conflict.{Conflict}
-use Rattle.walter_base.specs.declared.transaction.Conflict.TheVariants.{Modified, Locked as LockedThere, Dead}
+use Rattle.walter_base.specs.declared.transaction.Conflict.TheVariants.{Modified, Locked as LockedThere, Dead, Moving}
 use Rattle.walter_base.specs.Conflicts.{first_outside}
 use Rattle.walter_base.specs.Values.{write_set}
 use Rattle.walter_base.specs.Vectors.{entry_at}
@@ -23,7 +23,7 @@ use Rattle.walter_rules.specs.Sessions.{Session, tx_of}
 use Rattle.walter_rules.specs.Slow.{begun}
 use Rattle.walter_alone.proofs.Alone.{IsAlone}
 use Rattle.walter_linked.proofs.Agreed.{Stands, Put, logs, owns, counts, slows, AreAgreed, IsOver}
-use Rattle.walter_linked.proofs.Said.{over_modified, over_locked, first_outside_held, held_own, unseen_here, others_of}
+use Rattle.walter_linked.proofs.Said.{over_modified, over_locked, over_moving, first_outside_held, held_own, unseen_here, others_of}
 use Rattle.walter_refinement.proofs.Facts.{modified}
 use Rattle.walter_refinement.proofs.Moves.{held, numbers, spent, Spells}
 use Rattle.walter_refinement.proofs.Spelled.{IsLive, seen_row}
@@ -63,6 +63,7 @@ module _ (catalog : Catalog) (W : Stands) (put : Put) (h : List Step) (alone : (
         let other = over.2 row.place row.below in
         other.2 (ap (λ (r : Held). r.tx.tid) (same_Some other.0 row.row (sym other.1 ∙ row.here)) ∙ row.is),
   )
+  cause_there (Moving oid) alive over = writes_own oid over
   cause_there Dead alive over = absurd (alive refl)
 
   -- a conflict that an open session meets at its own site
@@ -102,5 +103,8 @@ module _ (catalog : Catalog) (W : Stands) (put : Put) (h : List Step) (alone : (
               others_of catalog W put G alone i s.snapshot owner (unseen_here catalog W put G alone i s.snapshot
                   ((alone i).snapshots client s open_.session) at_ owner over.1),
             )
+        | Moving oid ↦ λ is. absurd (over_moving at_ oid
+            (first_outside s.snapshot (map version_of (row at_ (logs W i))))
+            ((W i).knows.owner at_) is)
         | Dead ↦ λ is. tt
       ] met

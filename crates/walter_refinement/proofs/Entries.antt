@@ -1,8 +1,10 @@
 -- Each change keeps what is known of the history: the steps that it may add, one by one, and sessions that end, move
 -- or are numbered.
 use Rattle.std.proofs.Common.{◌≡◌, ◌≢◌, ℕ, ◌<◌, ◌≤◌, List, [], ◌∷◌, ◌++◌, refl, ap, sym, ◌∙◌, subst, arith, slice_get, Some, None, true, false, inl, inr, ◌⊎◌, if◌then◌else◌}
-use Rattle.std.specs.Prelude.{Contains, Option, get_or}
-use Rattle.std.proofs.lemmas.List.{append-nil}
+use Rattle.std.specs.Prelude.{Contains, Option, get_or, Bool, nat_eq, ◌&&◌, map}
+use Rattle.std.proofs.lemmas.Option.{same_Some}
+use Rattle.std.proofs.lemmas.Bool.{cases_Bool, and_parts, eqb-true, eq-eqb}
+use Rattle.std.proofs.lemmas.List.{append-nil, append_assoc}
 use Rattle.std.proofs.lemmas.List.Elements.{Contains-push_cases, Contains-get_or}
 use Rattle.walter_base.specs.declared.names.ObjId.{ObjId}
 use Rattle.walter_base.specs.declared.names.SiteId.{SiteId}
@@ -11,7 +13,7 @@ use Rattle.walter_base.specs.declared.transaction.Cause.{Cause}
 use Rattle.walter_base.specs.declared.update.Update.{Update}
 use Rattle.walter_base.specs.Names.{same_site, same_tid}
 use Rattle.walter_base.specs.Vectors.{entry_at}
-use Rattle.walter_base.proofs.NameTests.{same_tid-true, same_tid_refl}
+use Rattle.walter_base.proofs.NameTests.{same_site-true, same_site_refl, same_tid-true, same_tid_refl}
 use Rattle.walter_psi.specs.declared.step.Answer.{Answer}
 use Rattle.walter_psi.specs.declared.step.Level.{Level}
 use Rattle.walter_psi.specs.declared.step.Level.TheVariants.{NotCommitted, Committed, Durable, Visible}
@@ -28,7 +30,7 @@ use Rattle.walter_psi.proofs.Snapshots.{snapshot_here}
 use Rattle.walter_psi.proofs.LegalFacts.{over_started, none_done, none_committed}
 use Rattle.walter_rules.specs.declared.held.Held.{Held}
 use Rattle.walter_rules.specs.Log.{version_of}
-use Rattle.walter_rules.specs.Sessions.{Session, with_update, with_slow}
+use Rattle.walter_rules.specs.Sessions.{Session, with_updates, with_slow}
 use Rattle.walter_agreement.proofs.Lists.{prefix_refl}
 use Rattle.walter_agreement.proofs.Numbers.{AreOwned, IsPushed, IsCounted, counted_rise, pushed_prefix, pushed_cases}
 use Rattle.walter_refinement.proofs.Spelled.{Key, Sees, IsKept, IsLive, IsDoneOrLive, IsSpelledAt, IsAside, tid_of, kept_step, kept_grow, seen_step, done_or_live_step, done_or_live_grow, session_started, log_quiet, open_step, logs_step, sees_same, sees_grow, seen_row, row_seen, by_in}
@@ -238,10 +240,23 @@ module _ (owns : SiteId → List Held) (counts : SiteId → SiteId → ℕ) (num
         denied = denied_of numbers after (λ x i. i) old;
       }
 
+  -- an open session does an update
+  live_op : (s : Session) (u : Update) → IsLive owns counts h s
+      → IsLive owns counts (h ++ Op s.tid u ∷ []) (with_updates (u ∷ []) s)
+  live_op s u l = record {
+    started = started_kept s.tid h (Op s.tid u ∷ []) l.started;
+    running = open_step s.tid h (Op s.tid u) (λ us e. absurd cc) (λ cause e. absurd cc) l.running;
+    same =
+        own_updates_snoc s.tid h (Op s.tid u)
+        ∙ (ap (λ z. own_updates s.tid h ++ z) (done_op s.tid u) ∙ ap (λ z. z ++ u ∷ []) l.same);
+    seen = seen_step owns counts h s (Op s.tid u) l;
+    below = l.below;
+  }
+
   -- Op
   pub did_op : (c : Key) (s : Session) (u : Update) (after : Key → Option Session) → sessions c ≡ Some s
-      → IsLive owns counts h s
-      → IsWith c (with_update u s) sessions after → IsSpelledAt owns counts numbers after spent (h ++ Op s.tid u ∷ [])
+      → IsLive owns counts h s → IsWith c (with_updates (u ∷ []) s) sessions after
+      → IsSpelledAt owns counts numbers after spent (h ++ Op s.tid u ∷ [])
   did_op c s u after has l with_mine =
       let step : Step = Op s.tid u in
       plain step after (l.started, l.running)
@@ -254,15 +269,7 @@ module _ (owns : SiteId → List Held) (counts : SiteId → SiteId → ℕ) (num
       })
       (λ d t there. elim (with_mine d t there) [
         | inl here ↦
-            subst (λ z. IsDoneOrLive owns counts (h ++ step ∷ []) z) here.1 (inr (record {
-              started = started_kept s.tid h (step ∷ []) l.started;
-              running = open_step s.tid h step (λ us e. absurd cc) (λ cause e. absurd cc) l.running;
-              same =
-                  own_updates_snoc s.tid h step
-                  ∙ (ap (λ z. own_updates s.tid h ++ z) (done_op s.tid u) ∙ ap (λ z. z ++ u ∷ []) l.same);
-              seen = seen_step owns counts h s step l;
-              below = l.below;
-            }))
+            subst (λ z. IsDoneOrLive owns counts (h ++ step ∷ []) z) here.1 (inr (live_op s u l))
         | inr away ↦ done_or_live_step owns counts h t step (sp.live d t away.1) (record {
           none_done =
               done_none t.tid step (λ v e. other c d s t has away.1 away.0 (let f : s.tid ≡ t.tid = cc in sym f));
@@ -270,7 +277,7 @@ module _ (owns : SiteId → List Held) (counts : SiteId → SiteId → ℕ) (num
           no_abort = λ cause e. absurd cc;
         })
       ])
-      (with_old c s (with_update u s) after has refl with_mine)
+      (with_old c s (with_updates (u ∷ []) s) after has refl with_mine)
 
   -- Read
   pub did_read : (s : Session) (oid : ObjId) (a : Answer) (after : Key → Option Session) → IsLive owns counts h s
@@ -606,3 +613,76 @@ module _ (owns : SiteId → List Held) (counts : SiteId → SiteId → ℕ) (num
               | inr new ↦ absurd cc
             ];
       }
+
+-- whether two keys are one
+abbrev same_key : Key → Key → Bool
+same_key c d = same_site c.site d.site && nat_eq c.who d.who
+
+key_cases : (c d : Key) → ((same_key c d ≡ true) × (c ≡ d)) ⊎ ((same_key c d ≡ false) × (c ≢ d))
+key_cases c d = elim (cases_Bool (same_key c d)) [
+  | inl is ↦
+      let parts = and_parts (same_site c.site d.site) (nat_eq c.who d.who) is in
+      let site = same_site-true c.site d.site parts.0 in
+      let who = eqb-true c.who d.who parts.1 in
+      inl (is, (λ j. record { site = site j; who = who j }))
+  | inr is ↦ inr (
+    is,
+    λ e.
+        let test : same_key c d ≡ true = subst (λ z. same_key c z ≡ true) e
+        (rw (same_site_refl c.site, eq-eqb c.who c.who refl) refl) in
+        let clash : true ≡ false = sym test ∙ is in cc,
+  )
+]
+
+-- the sessions with this one at the key
+abbrev put_at : Key → Session → (Key → Option Session) → Key → Option Session
+put_at c mine sessions d = if same_key c d then Some mine else sessions d
+
+put_with : (c : Key) (mine : Session) (sessions : Key → Option Session)
+    → IsWith c mine sessions (put_at c mine sessions)
+put_with c mine sessions d t has = elim (key_cases c d) [
+  | inl same ↦ inl (same.1, same_Some mine t (sym (ap (λ b. if b then Some mine else sessions d) same.0) ∙ has))
+  | inr other ↦ inr (other.1, sym (ap (λ b. if b then Some mine else sessions d) other.0) ∙ has)
+]
+
+put_here : (c : Key) (mine : Session) (sessions : Key → Option Session) → put_at c mine sessions c ≡ Some mine
+put_here c mine sessions = elim (key_cases c c) [
+  | inl same ↦ ap (λ b. if b then Some mine else sessions c) same.0
+  | inr other ↦ absurd (other.1 refl)
+]
+
+-- some Ops, one behind the other
+pub did_ops : (owns : SiteId → List Held) (counts : SiteId → SiteId → ℕ) (numbers : SiteId → Issued)
+    (sessions : Key → Option Session) (spent : Key → Type 0) (h : List Step)
+    → IsSpelledAt owns counts numbers sessions spent h → (c : Key) (s : Session) (us : List Update)
+    (after : Key → Option Session) → sessions c ≡ Some s → IsLive owns counts h s
+    → IsWith c (with_updates us s) sessions after
+    → IsSpelledAt owns counts numbers after spent (h ++ map (λ u. Op s.tid u) us)
+did_ops owns counts numbers sessions spent h sp c s [] after has l with_mine =
+    let same : with_updates [] s ≡ s = ap (λ us. record s { updates = us }) (append-nil s.updates) in
+    subst (λ t. IsSpelledAt owns counts numbers after spent t) (sym (append-nil h))
+    (fewer owns counts numbers sessions spent h sp numbers after (λ x given_. given_)
+    (λ d t there. elim (with_mine d t there) [
+      | inl here ↦ subst (λ k. sessions k ≡ Some t) here.0 (has ∙ ap (λ z. Some z) (sym same ∙ here.1))
+      | inr away ↦ away.1
+    ]) spent (λ d t there gone. gone))
+did_ops owns counts numbers sessions spent h sp c s (u ∷ us) after has l with_mine =
+    let one : Session = with_updates (u ∷ []) s in
+    let between : Key → Option Session = put_at c one sessions in
+    let first = did_op owns counts numbers sessions spent h sp c s u between has l (put_with c one sessions) in
+    let live = live_op owns counts numbers sessions spent h sp s u l in
+    let joined : with_updates (u ∷ us) s ≡ with_updates us one =
+    ap (λ z. record s { updates = z }) (sym (append_assoc s.updates (u ∷ []) us)) in
+    subst (λ t. IsSpelledAt owns counts numbers after spent t)
+    (append_assoc h (Op s.tid u ∷ []) (map (λ v. Op s.tid v) us))
+    (did_ops owns counts numbers between spent (h ++ Op s.tid u ∷ []) first c one us after (put_here c one sessions)
+    live (λ d t there. elim (with_mine d t there) [
+      | inl here ↦ inl (here.0, sym joined ∙ here.1)
+      | inr away ↦ inr (
+        away.0,
+        elim (key_cases c d) [
+          | inl same ↦ absurd (away.0 same.1)
+          | inr other ↦ ap (λ b. if b then Some one else sessions d) other.0 ∙ away.1
+        ],
+      )
+    ]))

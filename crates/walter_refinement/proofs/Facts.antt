@@ -89,7 +89,7 @@ module _ (owns : SiteId → List Held) (counts : SiteId → SiteId → ℕ) (num
   committed_row y c = seen_row owns (λ k. counts y.site k) (log y.site h) y (sp.logs y.site) (committed_logged y h c)
 
   -- an own commit stands among those of its site in the log there
-  row_logged : (k : SiteId) (p : ℕ) (r : Held) → slice_get (owns k) p ≡ Some r
+  pub row_logged : (k : SiteId) (p : ℕ) (r : Held) → slice_get (owns k) p ≡ Some r
       → slice_get (by k (log k h)) p ≡ Some r.tx.tid
   row_logged k p r here =
       let l : p < counts k k =

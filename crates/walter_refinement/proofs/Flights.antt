@@ -56,7 +56,8 @@ module _ (catalog : Catalog) (i : SiteId) (W : Stands) (put : Put) (h : List Ste
       (Some (SlowBegin (next_slow (W i).knows)
       (tx_of (with_slow (next_slow (W i).knows) s)))) None sends dropped) W)
       (h ++ (spelled_by W i (Some (SlowBegin (next_slow (W i).knows) (tx_of (with_slow (next_slow (W i).knows) s))))
-      ++ answered i (W i) (Replied (Deciding s.tid)) (Given (Call client (Ok CommitAsked)))))
+      ++ answered catalog.friends i (W i) (Some (SlowBegin (next_slow (W i).knows) (tx_of (with_slow (next_slow (W i).knows) s))))
+      (Replied (Deciding s.tid)) (Given (Call client (Ok CommitAsked)))))
   begun_so client s kept sends dropped open_ =
       let n = next_slow (W i).knows in
       let x = tx_of (with_slow n s) in
@@ -103,7 +104,7 @@ module _ (catalog : Catalog) (i : SiteId) (W : Stands) (put : Put) (h : List Ste
       (s : Session) (seq : ℕ) → IsMute outcome → goes_down event outcome ≡ true
       → (W i).up ≡ true → session_of (W i).knows c ≡ Some s → IsDueOwn catalog W i seq (tx_of s)
       → Spells (at_site i (then_ catalog i (W i) event outcome kept None (Some (Own seq (tx_of s))) sends dropped) W)
-      (h ++ (spelled_by W i None ++ answered i (W i) outcome event))
+      (h ++ (spelled_by W i None ++ answered catalog.friends i (W i) None outcome event))
   own_flies event outcome kept sends dropped c s seq mute fall up has due =
       let S2 = then_ catalog i (W i) event outcome kept None (Some (Own seq (tx_of s))) sends dropped in
       let K = after catalog i (W i).knows event outcome None in
@@ -130,13 +131,13 @@ module _ (catalog : Catalog) (i : SiteId) (W : Stands) (put : Put) (h : List Ste
         lost = λ m tx asked is. final m (dropped_final ((W i).knows.slow m) tx asked is) ∙ is;
         done = λ m tx is. final m (decided_final ((W i).knows.slow m) tx is) ∙ is;
       } in
-      let undecided = not_decided catalog i W put h A G sp s seq due in
+      let undecided = not_decided catalog i W put h G sp s seq due in
       subst (λ t. Spells (at_site i S2 W) t)
-      (sym (ap (λ t. h ++ t) (mute_spells i (W i) outcome event mute) ∙ append-nil h))
+      (sym (ap (λ t. h ++ t) (mute_spells catalog.friends i (W i) None outcome event mute) ∙ append-nil h))
       (record {
         spelled = moved_to W i S2 h same on
             (moved (owns W) (counts W) (numbers W) (held W) (spent W) h sp.spelled
-            (held (at_site i S2 W)) key nobody refl (not_spent catalog i W put h A G sp (suc c) s seq has due)
+            (held (at_site i S2 W)) key nobody refl (not_spent catalog i W put h G sp (suc c) s seq has due)
             (λ d t now. elim (views W i S2 (held_by d.who) d.site) [
               | inl here ↦
                   let its = one d.who t (sym here.1 ∙ now) in
@@ -190,7 +191,7 @@ module _ (catalog : Catalog) (i : SiteId) (W : Stands) (put : Put) (h : List Ste
   kept_so (Own seq x) down flies due =
       let s : Session = record { tid = x.tid; snapshot = x.start; updates = x.updates; slow = x.slow } in
       let S1 = settled catalog i (Some (Own seq x)) (W i) in
-      owns_more catalog i W put h A G sp S1 zero s seq due (ap (λ f. in_flight f) flies) refl (λ k. refl) (λ n. refl)
+      owns_more catalog i W put h G sp S1 zero s seq due (ap (λ f. in_flight f) flies) refl (λ k. refl) (λ n. refl)
       (same_names (Own seq x) refl) (λ c t now. now) refl
       (λ fast now. absurd (let none : ◌≡◌ {A = Option Session} None (Some s) = now in cc))
   kept_so (Got j seq x) down flies due =
@@ -198,7 +199,7 @@ module _ (catalog : Catalog) (i : SiteId) (W : Stands) (put : Put) (h : List Ste
       (λ e. due.apart (sym (G.numbered.own.site j (seq - 1) (record { seq = seq; tx = x })
       (G.said j i (Propagate seq x) due.apart due.said).1) ∙ e)) tt (same_names (Got j seq x) refl)
   kept_so (Seen j seq) down flies due =
-      seen_here catalog i W put h A G sp None [] 0 (settled catalog i (Some (Seen j seq)) (W i)) j seq due refl
+      seen_here catalog i W put h G sp None [] 0 (settled catalog i (Some (Seen j seq)) (W i)) j seq due refl
       (λ k. refl) (λ n. refl) (same_names (Seen j seq) refl) (λ c t now. now)
       (λ t now. absurd (let none : ◌≡◌ {A = Option Session} None (Some t) = now in cc))
   kept_so (Prepared j n tid objects) down flies due = found_still (Prepared j n tid objects) tt tt

@@ -11,7 +11,7 @@ use Rattle.walter_base.specs.declared.message.Record.TheVariants.{Own}
 use Rattle.walter_base.specs.declared.message.Reply.{Reply}
 use Rattle.walter_base.specs.declared.message.Reply.TheVariants.{Value, Done, Set, Count, Committed, Aborted, Level}
 use Rattle.walter_base.specs.declared.message.Request.{Request}
-use Rattle.walter_base.specs.declared.message.Request.TheVariants.{Read as ReadAsked, Write as WriteAsked, SetAdd, SetDel, SetRead, SetReadId, Commit as CommitAsked, Level as LevelAsked}
+use Rattle.walter_base.specs.declared.message.Request.TheVariants.{Read as ReadAsked, SetRead, SetReadId, Commit as CommitAsked, Level as LevelAsked}
 use Rattle.walter_base.specs.declared.names.SiteId.{SiteId}
 use Rattle.walter_base.specs.declared.names.Tid.{Tid}
 use Rattle.walter_base.specs.declared.packet.Answer.TheVariants.{Yes, No}
@@ -19,7 +19,6 @@ use Rattle.walter_base.specs.declared.packet.Packet.TheVariants.{Vote}
 use Rattle.walter_base.specs.declared.transaction.Conflict.{Conflict}
 use Rattle.walter_base.specs.declared.transaction.Tx.{Tx}
 use Rattle.walter_base.specs.declared.update.Update.{Update}
-use Rattle.walter_base.specs.declared.update.Update.TheVariants.{Write as WriteOf, Add, Del}
 use Rattle.walter_base.specs.Values.{value_of, count_of, counts_of, AreCounts}
 use Rattle.walter_base.proofs.Counted.{counts_of_are}
 use Rattle.walter_psi.specs.declared.step.Answer.TheVariants.{Value as ValueIs, Counts as CountsAre, Count as CountIs}
@@ -33,7 +32,7 @@ use Rattle.walter_rules.specs.declared.event.Event.TheVariants.{Given}
 use Rattle.walter_rules.specs.declared.event.Input.TheVariants.{Call, Deliver}
 use Rattle.walter_rules.specs.declared.outcome.Outcome.{Outcome}
 use Rattle.walter_rules.specs.declared.outcome.Outcome.TheVariants.{Replied, Taken}
-use Rattle.walter_rules.specs.Allowed.{HasOpen, HasBegun, IsUpdateCall, of_write, of_add, of_del, IsReadCall, of_value, of_counts, of_count}
+use Rattle.walter_rules.specs.Allowed.{HasOpen, HasBegun, IsUpdateCall, IsReadCall, of_value, of_counts, of_count}
 use Rattle.walter_rules.specs.Calls.{own_version, read_updates, level_of_own, seq_of, is_issued, is_undecided, is_open, next_seq}
 use Rattle.walter_rules.specs.Conflicts.{first_conflict, cause_of}
 use Rattle.walter_rules.specs.Log.{version_of}
@@ -42,14 +41,14 @@ use Rattle.walter_rules.specs.Objects.{objects_at}
 use Rattle.walter_rules.specs.Sending.{Send}
 use Rattle.walter_rules.specs.Sessions.{Session, tx_of}
 use Rattle.walter_rules.specs.Slow.{Unused, Undecided, Dropped, Decided, begun}
-use Rattle.walter_rules.proofs.RuleTests.{one_meets}
+use Rattle.walter_rules.proofs.RuleTests.{asked_is, one_meets}
 use Rattle.walter_rules.proofs.WrittenObjects.{objects_at_from}
 use Rattle.walter_rules.proofs.RuleTests.{first_alive}
 use Rattle.walter_agreement.proofs.Cases.{zero_or, low_or, same_open}
 use Rattle.walter_agreement.proofs.Issued.{IsIssued}
 use Rattle.walter_alone.proofs.Alone.{IsAlone, issued_by}
 use Rattle.walter_linked.proofs.Agreed.{Stands, Put, owns, counts, at_site, AreAgreed, IsOver, IsDueOwn}
-use Rattle.walter_refinement.specs.Spelled.{recorded as spelled_by, answered, of_session, told, saw, saw_set, saw_count}
+use Rattle.walter_refinement.specs.Spelled.{recorded as spelled_by, answered, opened, of_session, told, saw, saw_set, saw_count}
 use Rattle.walter_refinement.proofs.CallSteps.{aborted_so, done_so, seen_so, goes_same, goes_closed, read_so, open_live, replied_so}
 use Rattle.walter_refinement.proofs.Causes.{cause_there, over_here}
 use Rattle.walter_refinement.proofs.Entries.{did_tell_version, did_tell_level, did_deny}
@@ -73,17 +72,14 @@ module _ (catalog : Catalog) (i : SiteId) (W : Stands) (put : Put) (h : List Ste
   abbrev pub Keeps : Event → Outcome → Option Record → Option Record → Type 0
   Keeps event outcome wrote flight =
       Spells (at_site i (then_ catalog i (W i) event outcome kept wrote flight sends dropped) W)
-      (h ++ (spelled_by W i wrote ++ answered i (W i) outcome event))
+      (h ++ (opened i wrote outcome event ++ (spelled_by W i wrote ++ answered catalog.friends i (W i) wrote outcome event)))
 
-  -- an update that was asked for
-  pub updates_so : (client : ℕ) (call : Result Request BadFrame) (s : Session) (update : Update)
-      → HasOpen (W i) client s → IsUpdateCall call update → Keeps (Given (Call client call)) (Replied Done) None None
-  updates_so client call s update open_ (of_write oid bytes) = done_so catalog i W put h (alone i) G sp client
-      (Ok (WriteAsked oid bytes)) kept sends dropped s (WriteOf oid bytes) open_ refl refl
-  updates_so client call s update open_ (of_add oid id) = done_so catalog i W put h (alone i) G sp client
-      (Ok (SetAdd oid id)) kept sends dropped s (Add oid id) open_ refl refl
-  updates_so client call s update open_ (of_del oid id) = done_so catalog i W put h (alone i) G sp client
-      (Ok (SetDel oid id)) kept sends dropped s (Del oid id) open_ refl refl
+  -- updates that were asked for
+  pub updates_so : (client : ℕ) (call : Result Request BadFrame) (s : Session) (updates : List Update)
+      → HasOpen (W i) client s → IsUpdateCall catalog.friends call updates
+      → Keeps (Given (Call client call)) (Replied Done) None None
+  updates_so client call s updates open_ asks = done_so catalog i W put h (alone i) G sp client call kept sends
+      dropped s updates open_ (asked_is catalog.friends call updates asks)
 
   -- a read
   pub reads_so : (client : ℕ) (call : Result Request BadFrame) (s : Session) (reply : Reply) (updates : List Update)
@@ -121,7 +117,7 @@ module _ (catalog : Catalog) (i : SiteId) (W : Stands) (put : Put) (h : List Ste
 
   -- a reply that tells how far an own commit has come
   tells_level_so : (client : ℕ) (tid : Tid) (seq : ℕ) (level : HowFar) (so : ToldLevel) → so ≢ ToldNotCommitted
-      → answered i (W i) (Replied (Level level)) (Given (Call client (Ok (LevelAsked tid)))) ≡ Told tid
+      → answered catalog.friends i (W i) None (Replied (Level level)) (Given (Call client (Ok (LevelAsked tid)))) ≡ Told tid
       (OfLevel so) ∷ [] → seq_of i (W i).knows tid ≡ Some seq
       → Keeps (Given (Call client (Ok (LevelAsked tid)))) (Replied (Level level)) None None
   tells_level_so client tid seq level so high spelled_ is =
@@ -154,11 +150,11 @@ module _ (catalog : Catalog) (i : SiteId) (W : Stands) (put : Put) (h : List Ste
       ]
 
   -- a reply that tells nothing
-  pub level_quiet : (client : ℕ) (tid : Tid) (level : HowFar) → answered i (W i) (Replied (Level level))
+  pub level_quiet : (client : ℕ) (tid : Tid) (level : HowFar) → answered catalog.friends i (W i) None (Replied (Level level))
       (Given (Call client (Ok (LevelAsked tid)))) ≡ [] → Keeps (Given (Call client (Ok (LevelAsked tid))))
       (Replied (Level level)) None None
   level_quiet client tid level none =
-      quiet_entry catalog i W h (spelled_by W i None ++ answered i (W i) (Replied (Level level))
+      quiet_entry catalog i W h (spelled_by W i None ++ answered catalog.friends i (W i) None (Replied (Level level))
       (Given (Call client (Ok (LevelAsked tid))))) (Given (Call client (Ok (LevelAsked tid))))
       (Replied (Level level)) kept None None sends dropped none tt tt
       (λ x g. issued_same (W i).up (W i).knows (then_ catalog i (W i) (Given (Call client (Ok (LevelAsked tid))))
@@ -297,6 +293,6 @@ module _ (catalog : Catalog) (i : SiteId) (W : Stands) (put : Put) (h : List Ste
       let one : tx_of w.1 ≡ tx = same_open ((W i).knows.slow w.1.slow) (tx_of w.1) tx asked mine
       (ap (λ m. (W i).knows.slow m) w.3 ∙ undecided) in
       subst (λ x. Keeps (Given (Deliver p number (Vote n Yes))) Taken (Some (Own (next_seq i (W i).knows) x)) None) one
-      (decided_so catalog i W put h (alone i) G sp kept sends dropped p number n
+      (decided_so catalog i W put h G sp kept sends dropped p number n
       (next_seq i (W i).knows) w.0 w.1 w.2 some (subst (λ x. IsDueOwn catalog W i (next_seq i (W i).knows) x)
       (sym one) due))

@@ -18,9 +18,12 @@ pub mod Flights
 pub mod Causes
 pub mod Names
 pub mod KindSteps
+pub mod Handed
 pub mod RunSteps
 pub mod RunSpells
 pub mod Once
 pub mod NamedAborts
+pub mod Tokens
+pub mod Friends
 pub mod Trails
 pub mod CommitsAnswered

@@ -1,6 +1,7 @@
 -- What the sites say of the history, and how it goes on where one of them goes on.
 use Rattle.std.proofs.Common.{◌≡◌, ◌≢◌, ℕ, zero, suc, ◌+◌, ◌≤◌, List, [], ◌∷◌, ◌++◌, refl, ap, sym, ◌∙◌, subst, slice_get, Some, None, inl, inr, ◌⊎◌, if◌then◌else◌}
-use Rattle.std.specs.Prelude.{Option}
+use Rattle.std.specs.Prelude.{Option, map}
+use Rattle.std.proofs.lemmas.List.{append-nil, append_assoc}
 use Rattle.std.proofs.lemmas.Option.{same_Some}
 use Rattle.walter_base.specs.declared.message.Record.{Record}
 use Rattle.walter_base.specs.declared.message.Record.TheVariants.{Own}
@@ -11,7 +12,7 @@ use Rattle.walter_base.specs.declared.update.Update.{Update}
 use Rattle.walter_base.specs.Names.{same_site}
 use Rattle.walter_base.specs.Vectors.{entry_at}
 use Rattle.walter_psi.specs.declared.step.Step.{Step}
-use Rattle.walter_psi.specs.declared.step.Step.TheVariants.{Start, Commit, Arrive}
+use Rattle.walter_psi.specs.declared.step.Step.TheVariants.{Start, Op, Commit, Arrive}
 use Rattle.walter_psi.specs.Histories.{IsCommitted}
 use Rattle.walter_psi.specs.Legal.{IsBlocked}
 use Rattle.walter_psi.proofs.OneMore.{committed_snoc}
@@ -114,7 +115,7 @@ module _ (W : Stands) (i : SiteId) (S : Standing) where
     | inr away ↦ ap (λ z. held_by d.who z) (sym away.1) ∙ has
   ]
 
-  still_spent : GoesOn (W i) S → (d : Key) (t : Session) → held (at_site i S W) d ≡ Some t → spent W d
+  pub still_spent : GoesOn (W i) S → (d : Key) (t : Session) → held (at_site i S W) d ≡ Some t → spent W d
       → spent (at_site i S W) d
   still_spent on d t has gone = elim (views (λ z. z) d.site) [
     | inl here ↦
@@ -136,13 +137,13 @@ module _ (W : Stands) (i : SiteId) (S : Standing) where
     | inr away ↦ subst (λ z. spent_by d.who z) (sym away.1) gone
   ]
 
-  same_owns : HasSame i (W i) S → (k : SiteId) → owns (at_site i S W) k ≡ owns W k
+  pub same_owns : HasSame i (W i) S → (k : SiteId) → owns (at_site i S W) k ≡ owns W k
   same_owns same k = elim (views (λ z. of_site k z.knows.log) k) [
     | inl here ↦ here.1 ∙ subst (λ j. of_site j S.knows.log ≡ owns W j) here.0 same.owned
     | inr away ↦ ap (λ (z : Standing). of_site k z.knows.log) away.1
   ]
 
-  same_counts : HasSame i (W i) S → (j k : SiteId) → counts (at_site i S W) j k ≡ counts W j k
+  pub same_counts : HasSame i (W i) S → (j k : SiteId) → counts (at_site i S W) j k ≡ counts W j k
   same_counts same j k = elim (views (λ z. z.knows.committed k) j) [
     | inl here ↦ here.1 ∙ subst (λ a. S.knows.committed k ≡ counts W a k) here.0 (same.committed k)
     | inr away ↦ ap (λ (z : Standing). z.knows.committed k) away.1
@@ -198,18 +199,33 @@ module _ (W : Stands) (i : SiteId) (S : Standing) where
       (fewer (owns W) (counts W) (numbers W) (held (at_site i S W)) (spent W) h sp (numbers (at_site i S W))
       (held (at_site i S W)) (higher on) (λ d t has. has) (spent (at_site i S W)) (still_spent on))
 
-  -- a step of it that commits nothing, where each session that it holds it held
+  -- steps of it that commit nothing, where each session that it holds it held
+  pub stepped_on : (h more : List Step) → ((x : Tid) → IsCommitted x (h ++ more) → IsCommitted x h)
+      → HasSame i (W i) S → GoesOn (W i) S → IsOfOld
+      → IsSpelledAt (owns W) (counts W) (numbers W) (held (at_site i S W)) (spent W) (h ++ more) → Spells W h
+      → Spells (at_site i S W) (h ++ more)
+  stepped_on h more none same on old sp before = record {
+    spelled = moved_to (h ++ more) same on sp;
+    decided = still_decided h (h ++ more) on before.decided
+        (λ who t has committed. old_decided h on old before.decided who t has (none t.tid committed))
+        (λ d t apart has committed. none t.tid committed);
+  }
+
+  -- one step
   pub stepped : (h : List Step) (step : Step) → ((x : Tid) (us : List Update) → step ≢ Commit x us)
       → HasSame i (W i) S → GoesOn (W i) S → IsOfOld
       → IsSpelledAt (owns W) (counts W) (numbers W) (held (at_site i S W)) (spent W) (h ++ step ∷ []) → Spells W h
       → Spells (at_site i S W) (h ++ step ∷ [])
-  stepped h step plain same on old sp before = record {
-    spelled = moved_to (h ++ step ∷ []) same on sp;
-    decided = still_decided h (h ++ step ∷ []) on before.decided
-        (λ who t has committed. old_decided h on old before.decided who t has
-        (not_by h step t.tid (plain t.tid) committed))
-        (λ d t apart has committed. not_by h step t.tid (plain t.tid) committed);
-  }
+  stepped h step plain = stepped_on h (step ∷ []) (λ x. not_by h step x (plain x))
+
+  -- updates commit nothing
+  pub none_by_ops : (h : List Step) (tid : Tid) (us : List Update) (x : Tid)
+      → IsCommitted x (h ++ map (λ u. Op tid u) us) → IsCommitted x h
+  none_by_ops h tid [] x committed = subst (IsCommitted x) (append-nil h) committed
+  none_by_ops h tid (u ∷ us) x committed =
+      not_by h (Op tid u) x (λ vs e. absurd cc)
+      (none_by_ops (h ++ Op tid u ∷ []) tid us x
+      (subst (IsCommitted x) (sym (append_assoc h (Op tid u ∷ []) (map (λ v. Op tid v) us))) committed))
 
   -- no step of it, where each session that it holds it held
   pub unstepped : (h : List Step) → HasSame i (W i) S → GoesOn (W i) S → IsOfOld

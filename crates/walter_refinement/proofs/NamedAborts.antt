@@ -1,5 +1,5 @@
 -- Each abort but one that was asked for has its conflict, where it was met.
-use Rattle.std.proofs.Common.{◌≡◌, ◌≢◌, ℕ, ◌<◌, List, [], ◌∷◌, ◌++◌, map, refl, ap, sym, ◌∙◌, subst, arith, Some, None, inl, inr}
+use Rattle.std.proofs.Common.{◌≡◌, ◌≢◌, ℕ, List, [], ◌∷◌, ◌++◌, map, refl, ap, sym, ◌∙◌, subst, arith, Some, None, inl, inr}
 use Rattle.std.specs.Prelude.{Option, Contains, IfSome, Ok}
 use Rattle.std.proofs.lemmas.List.Elements.{Contains-append_cases}
 use Rattle.std.proofs.lemmas.Option.{same_Some}
@@ -16,7 +16,7 @@ use Rattle.walter_base.specs.declared.packet.Packet.TheVariants.{Prepare, Vote}
 use Rattle.walter_base.specs.declared.transaction.Cause.{Cause}
 use Rattle.walter_base.specs.declared.transaction.Cause.TheVariants.{Asked}
 use Rattle.walter_base.specs.declared.transaction.Conflict.{Conflict}
-use Rattle.walter_base.specs.declared.transaction.Conflict.TheVariants.{Modified as ModifiedThere, Locked as LockedThere, Dead}
+use Rattle.walter_base.specs.declared.transaction.Conflict.TheVariants.{Modified as ModifiedThere, Locked as LockedThere, Dead, Moving as MovingThere}
 use Rattle.walter_base.specs.declared.transaction.Tx.{Tx}
 use Rattle.walter_base.specs.Conflicts.{first_outside}
 use Rattle.walter_base.specs.Values.{write_set}
@@ -27,9 +27,9 @@ use Rattle.walter_rules.specs.declared.event.Event.TheVariants.{Given, Stop, Res
 use Rattle.walter_rules.specs.declared.event.Input.TheVariants.{Call, Deliver, Advance, Tick, Upgrade}
 use Rattle.walter_rules.specs.declared.outcome.Outcome.{Outcome}
 use Rattle.walter_rules.specs.declared.outcome.Outcome.TheVariants.{Replied, Failed}
-use Rattle.walter_rules.specs.Allowed.{HasOpen, HasBegun, IsOwnerUnseen, IsMet, of_value, of_counts, of_count, IsKind, is_refused, starts, does, reads, ends, aborts, conflicts, commits, begins, waits, tells_version, tells_cause, levels_own, is_deciding, is_running, denies, passes, receives, hears_ack, hears_durable, hears_visible, marks_durable, marks_visible, prepares, hears_yes, decides, gives_up, releases, hears_released, sees, upgrades, stops, is_down, boots}
+use Rattle.walter_rules.specs.Allowed.{HasOpen, HasBegun, IsOwnerUnseen, IsMet, of_value, of_counts, of_count, IsKind, is_refused, starts, does, reads, ends, aborts, conflicts, commits, begins, moves, waits, tells_version, tells_cause, levels_own, is_deciding, is_running, denies, passes, receives, hears_ack, hears_durable, hears_visible, marks_durable, marks_visible, prepares, hears_yes, decides, gives_up, releases, hears_released, sees, upgrades, stops, is_down, boots, tells_token}
 use Rattle.walter_rules.specs.Conflicts.{conflict_at, first_conflict, cause_of}
-use Rattle.walter_rules.specs.Knowledge.{Knowledge, session_of}
+use Rattle.walter_rules.specs.Knowledge.{Knowledge, preferred, session_of}
 use Rattle.walter_rules.specs.Layouts.{Layout}
 use Rattle.walter_rules.specs.Log.{row, version_of}
 use Rattle.walter_rules.specs.Merges.{Named}
@@ -37,11 +37,11 @@ use Rattle.walter_rules.specs.Objects.{objects_at}
 use Rattle.walter_rules.specs.Sessions.{Session, tx_of}
 use Rattle.walter_rules.specs.Standing.{Standing, settled}
 use Rattle.walter_rules.specs.Trails.{IsFound, failure, fullness, want}
-use Rattle.walter_rules.proofs.RuleTests.{one_meets, first_alive}
+use Rattle.walter_rules.proofs.RuleTests.{one_meets, first_alive, one_meets_there, there_meets}
 use Rattle.walter_rules.proofs.WrittenObjects.{objects_at_from}
 use Rattle.walter_runs.specs.Runs.{stands, IsPut, IsRun}
 use Rattle.walter_runs.proofs.Steps.{IsStep, stable, flies, unread_step, wants, finds_full}
-use Rattle.walter_alone.proofs.Alone.{home}
+use Rattle.walter_alone.proofs.Alone.{HasHomes}
 use Rattle.walter_alone.proofs.KeptSteps.{right_alone, settled_alone}
 use Rattle.walter_linked.proofs.Said.{over_locked, unseen_here}
 use Rattle.walter_linked.proofs.Runs.{found, found_here, run_alone, next_step, run_agrees, put_later}
@@ -65,7 +65,7 @@ kind_aborts : (catalog : Catalog) (i : SiteId) (S : Standing) (event : Event) (w
     (outcome : Outcome) (cause : Cause) → IsKind catalog i S event wrote outcome → outcome ≡ Replied (Aborted cause)
     → IsAbort catalog i S event cause
 kind_aborts catalog i S event wrote outcome cause (is_refused client call refusal) e = absurd cc
-kind_aborts catalog i S event wrote outcome cause (starts client up none) e = absurd cc
+kind_aborts catalog i S event wrote outcome cause (starts client call up none asks) e = absurd cc
 kind_aborts catalog i S event wrote outcome cause (does client call s update open_ is declared) e = absurd cc
 kind_aborts catalog i S event wrote outcome cause (reads client call s reply open_ (of_value oid us)) e = absurd cc
 kind_aborts catalog i S event wrote outcome cause (reads client call s reply open_ (of_counts oid us)) e = absurd cc
@@ -76,6 +76,7 @@ kind_aborts catalog i S event wrote outcome cause (conflicts client s conflict o
     met_here client s conflict refl open_ (cc) first
 kind_aborts catalog i S event wrote outcome cause (commits client s open_ some local clear) e = absurd cc
 kind_aborts catalog i S event wrote outcome cause (begins client s open_ some clear) e = absurd cc
+kind_aborts catalog i S event wrote outcome cause (moves client container to may) e = absurd cc
 kind_aborts catalog i S event wrote outcome cause (waits client s tx asked begun_ undecided) e = absurd cc
 kind_aborts catalog i S event wrote outcome cause (tells_version client s tx seq begun_ decided is) e = absurd cc
 kind_aborts catalog i S event wrote outcome cause (tells_cause client s tx asked conflict begun_ lost said) e =
@@ -84,6 +85,7 @@ kind_aborts catalog i S event wrote outcome cause (levels_own client tid seq up 
 kind_aborts catalog i S event wrote outcome cause (is_deciding client tid up) e = absurd cc
 kind_aborts catalog i S event wrote outcome cause (is_running client tid up) e = absurd cc
 kind_aborts catalog i S event wrote outcome cause (denies client tid up here issued none undecided open_) e = absurd cc
+kind_aborts catalog i S event wrote outcome cause (tells_token client up) e = absurd cc
 kind_aborts catalog i S event wrote outcome cause (passes same) e = absurd cc
 kind_aborts catalog i S event wrote outcome cause (receives j number seq tx peer next) e = absurd cc
 kind_aborts catalog i S event wrote outcome cause (hears_ack j number got peer low) e = absurd cc
@@ -157,11 +159,13 @@ step_aborts catalog i S event came cause (finds_full rec outcome need left kind 
 -- a NO that an entry put out over a conflict was met there
 no_met : (catalog : Catalog) (p : SiteId) (S : Standing) (event : Event) (came : Came) (i : SiteId) (n : ℕ)
     (conflict : Conflict) → conflict ≢ Dead → IsStep catalog p S event came
-    → Contains came.sends (i, Vote n (No conflict)) → IsMet S.knows event i n conflict
+    → Contains came.sends (i, Vote n (No conflict)) → IsMet catalog p S.knows event i n conflict
 no_met catalog p S event came i n (ModifiedThere oid version) alive (stable kind none sent) c =
     sent i (Vote n (No (ModifiedThere oid version))) c
 no_met catalog p S event came i n (LockedThere oid owner) alive (stable kind none sent) c =
     sent i (Vote n (No (LockedThere oid owner))) c
+no_met catalog p S event came i n (MovingThere oid) alive (stable kind none sent) c =
+    sent i (Vote n (No (MovingThere oid))) c
 no_met catalog p S event came i n Dead alive (stable kind none sent) c = absurd (alive refl)
 no_met catalog p S event came i n conflict alive (flies rec outcome kind only) c =
     absurd (Contains-nil (i, Vote n (No conflict)) (subst (λ t. Contains t (i, Vote n (No conflict))) only.sends c))
@@ -196,7 +200,7 @@ not_found catalog older n None e is apart = found_here catalog older n
     ∙ ap (λ k. settled catalog n.0 k (stands catalog older n.0)) e
 not_found catalog older n (Some r) e is apart = absurd (apart is.restart)
 
-module _ (catalog : Catalog) (layouts : SiteId → Layout) (homes : (oid : ObjId) → (home catalog oid).0 < catalog.sites) where
+module _ (catalog : Catalog) (layouts : SiteId → Layout) (homes : HasHomes catalog) where
   -- a NO of a site was met there
   met_before : (older : List Named) (i : SiteId) (client : ℕ) (s : Session) (conflict : Conflict)
       → IsRun catalog layouts older → HasBegun (stands catalog older i) client s
@@ -225,8 +229,12 @@ module _ (catalog : Catalog) (layouts : SiteId → Layout) (homes : (oid : ObjId
       let one : so.0 ≡ tx_of s = same_Some so.0 (tx_of s) (sym so.1 ∙ mine) in
       let tid : met.tid ≡ s.tid = so.2 ∙ ap (λ (x : Tx). x.tid) one in
       let start : met.start ≡ s.snapshot = so.3 ∙ ap (λ (x : Tx). x.start) one in
-      let at_conflict = one_meets (found catalog at_.1 (p, put.entry) p).knows met.start met.objects conflict met.met in
-      let here = so.5 at_conflict.0 at_conflict.1 in
+      let K = (found catalog at_.1 (p, put.entry) p).knows in
+      let at_conflict = one_meets_there catalog p K met.start met.objects conflict met.met in
+      let written : Contains (write_set s.updates) at_conflict.0 =
+      subst (λ (x : Tx). Contains (write_set x.updates) at_conflict.0) one
+      ((run_alone catalog layouts homes right settles older is i).written s.slow so.0 so.1 p at_conflict.0
+      (subst (λ z. Contains z at_conflict.0) so.4 at_conflict.1)) in
       record {
         newer = at_.0;
         site = p;
@@ -238,17 +246,23 @@ module _ (catalog : Catalog) (layouts : SiteId → Layout) (homes : (oid : ObjId
         objects = met.objects;
         came = met.came ∙ (λ t. Given (Deliver i met.number (Prepare s.slow (tid t) (start t) met.objects)));
         sent = put.sent;
-        met = record {
-          oid = at_conflict.0;
-          written = subst (λ (x : Tx). Contains (write_set x.updates) at_conflict.0) one
-              ((so.4 at_conflict.0 here).0 at_conflict.1);
-          here = here;
-          met = subst (λ (S : Standing). conflict_at S.knows s.snapshot at_conflict.0 ≡ Some conflict) stood
-              (subst (λ v. conflict_at (found catalog at_.1 (p, put.entry) p).knows v at_conflict.0
-              ≡ Some conflict) start at_conflict.2);
-          unseen = subst (λ (S : Standing). IsOwnerUnseen S.knows s.snapshot conflict) stood
-              (subst (λ v. IsOwnerUnseen (found catalog at_.1 (p, put.entry) p).knows v conflict) start met.unseen);
-        };
+        met = elim (there_meets catalog p K met.start at_conflict.0 (Some conflict) at_conflict.2) [
+          | inl here ↦ inl (record {
+            oid = at_conflict.0;
+            written = written;
+            here = subst (λ (S : Standing). preferred catalog S.knows at_conflict.0 ≡ p) stood here.0;
+            met = subst (λ (S : Standing). conflict_at S.knows s.snapshot at_conflict.0 ≡ Some conflict) stood
+                (subst (λ v. conflict_at K v at_conflict.0 ≡ Some conflict) start here.1);
+            unseen = subst (λ (S : Standing). IsOwnerUnseen S.knows s.snapshot conflict) stood
+                (subst (λ v. IsOwnerUnseen K v conflict) start met.unseen);
+          })
+          | inr gone ↦ inr (record {
+            oid = at_conflict.0;
+            written = written;
+            away = subst (λ (S : Standing). preferred catalog S.knows at_conflict.0 ≢ p) stood gone.0;
+            is = sym (same_Some (MovingThere at_conflict.0) conflict gone.1);
+          })
+        ];
       }
 
   -- an abort of a run is named
@@ -269,6 +283,8 @@ module _ (catalog : Catalog) (layouts : SiteId → Layout) (homes : (oid : ObjId
           (subst (λ z. IsConflictNamed catalog older n z) c named)
       by_conflict (LockedThere oid owner) alive c named = subst (λ z. IsNamed catalog older n z) (sym c)
           (subst (λ z. IsConflictNamed catalog older n z) c named)
+      by_conflict (MovingThere oid) alive c named = subst (λ z. IsNamed catalog older n z) (sym c)
+          (subst (λ z. IsConflictNamed catalog older n z) c named)
       by_conflict Dead alive c named = absurd (alive refl)
 
       -- the owner of a lock that the session meets at its own site is one that it doesn't see
@@ -286,6 +302,7 @@ module _ (catalog : Catalog) (layouts : SiteId → Layout) (homes : (oid : ObjId
           unseen_here catalog (stands catalog older) (IsPut older) agreed alone n.0 s.snapshot
           ((alone n.0).snapshots client s has) at_ owner
           (over_locked at_ oid (first_outside s.snapshot (map version_of (row at_ K.log))) (K.owner at_) owner met).1
+      owner_unseen client s at_ (MovingThere oid) has met = tt
       owner_unseen client s at_ Dead has met = tt
 
       abort_named : IsAbort catalog n.0 (found catalog older n n.0) n.1.event cause → IsNamed catalog older n cause
@@ -307,7 +324,7 @@ module _ (catalog : Catalog) (layouts : SiteId → Layout) (homes : (oid : ObjId
             met = inl (record {
               oid = one.0;
               written = within.0;
-              here = within.1;
+              here = subst (λ (S : Standing). preferred catalog S.knows one.0 ≡ n.0) same within.1;
               met =
                   subst (λ (S : Standing). conflict_at S.knows s.snapshot one.0 ≡ Some conflict) same one.2;
               unseen = owner_unseen client s one.0 conflict

@@ -1,13 +1,12 @@
 -- The own commits that a site's records tell are those of its log; so each stands once, where each transaction
 -- commits once.
-use Rattle.std.proofs.Common.{◌≡◌, ◌≢◌, ℕ, zero, suc, ◌+◌, ◌-◌, ◌<◌, List, [], ◌∷◌, ◌++◌, length, refl, ap, sym, ◌∙◌, subst, arith, slice_get, Some, None, inl, inr}
+use Rattle.std.proofs.Common.{◌≡◌, ◌≢◌, ℕ, zero, suc, ◌+◌, ◌-◌, List, [], ◌∷◌, ◌++◌, length, refl, ap, sym, ◌∙◌, subst, arith, slice_get, Some, None, inl, inr}
 use Rattle.std.specs.Prelude.{Option}
 use Rattle.std.proofs.lemmas.List.{append-nil, append_assoc}
 use Rattle.std.proofs.lemmas.Option.{same_Some}
 use Rattle.walter_base.specs.declared.catalog.Catalog.{Catalog}
 use Rattle.walter_base.specs.declared.message.Record.{Record}
 use Rattle.walter_base.specs.declared.message.Record.TheVariants.{Boot, Own, Got, Seen, Prepared, Released, SlowBegin, SlowEnd, Marks, Format as FormatRecord}
-use Rattle.walter_base.specs.declared.names.ObjId.{ObjId}
 use Rattle.walter_base.specs.declared.names.SiteId.{SiteId}
 use Rattle.walter_base.specs.declared.names.Tid.{Tid}
 use Rattle.walter_base.specs.declared.packet.Packet.TheVariants.{Propagate}
@@ -23,7 +22,7 @@ use Rattle.walter_rules.specs.Standing.{Standing, records_after, settled, stands
 use Rattle.walter_runs.specs.Runs.{stands, IsPut, IsRun}
 use Rattle.walter_agreement.proofs.Cases.{site_cases}
 use Rattle.walter_agreement.proofs.Lists.{filter_push_kept, filter_push_left}
-use Rattle.walter_alone.proofs.Alone.{home}
+use Rattle.walter_alone.proofs.Alone.{HasHomes}
 use Rattle.walter_alone.proofs.KeptSteps.{right_alone, settled_alone}
 use Rattle.walter_linked.proofs.Agreed.{Stands, Put, owns, AreAgreed, IsDue}
 use Rattle.walter_linked.proofs.Runs.{found, found_here, stands_here, stands_away, found_away, run_agrees, settled_agrees, kept_due, wrote_due}
@@ -152,7 +151,7 @@ tells_more i records log None of is = is
 tells_more i records log (Some r) of is = owned_push records r
     ∙ (ap (λ t. t ++ own_in r) is ∙ sym (log_more i log r (of r refl)))
 
-module _ (catalog : Catalog) (layouts : SiteId → Layout) (homes : (oid : ObjId) → (home catalog oid).0 < catalog.sites) where
+module _ (catalog : Catalog) (layouts : SiteId → Layout) (homes : HasHomes catalog) where
   -- behind what was found
   tells_found : (older : List Named) (n : Named) (is : IsRun catalog layouts (n ∷ older)) (kept : Option Record)
       → ((r : Record) → kept ≡ Some r → IsOfSite n.0 r) → owned_in (stands catalog older n.0).records ≡ owns

@@ -7,7 +7,7 @@ use Rattle.std.proofs.lemmas.List.Elements.{Contains-append_right}
 use Rattle.walter_base.specs.declared.names.ObjId.{ObjId}
 use Rattle.walter_base.specs.declared.names.Tid.{Tid}
 use Rattle.walter_base.specs.declared.update.Update.{Update}
-use Rattle.walter_base.specs.declared.update.Update.TheVariants.{Write, Add, Del}
+use Rattle.walter_base.specs.declared.update.Update.TheVariants.{Write, Add, Del, Move}
 use Rattle.walter_base.specs.Names.{same_object}
 use Rattle.walter_base.specs.Values.{value_from, write_set}
 use Rattle.walter_base.proofs.NameTests.{same_object-true}
@@ -20,6 +20,7 @@ writes oid [] = false
 writes oid (Write at bytes ∷ us) = if same_object at oid then true else writes oid us
 writes oid (Add at id ∷ us) = writes oid us
 writes oid (Del at id ∷ us) = writes oid us
+writes oid (Move container to ∷ us) = writes oid us
 
 -- updates that write the object have it in their write set
 pub writes_some : (oid : ObjId) (us : List Update) → writes oid us ≡ true → Contains (write_set us) oid
@@ -32,6 +33,7 @@ writes_some oid (Write at bytes ∷ us) h =
     ] refl h
 writes_some oid (Add at id ∷ us) h = writes_some oid us h
 writes_some oid (Del at id ∷ us) h = writes_some oid us h
+writes_some oid (Move container to ∷ us) h = writes_some oid us h
 
 -- updates that don't write the object leave its value
 pub value_unwritten : (held : Option (List ℕ)) (oid : ObjId) (us : List Update) → writes oid us ≡ false
@@ -45,6 +47,7 @@ value_unwritten held oid (Write at bytes ∷ us) idle =
     ] idle
 value_unwritten held oid (Add at id ∷ us) idle = value_unwritten held oid us idle
 value_unwritten held oid (Del at id ∷ us) idle = value_unwritten held oid us idle
+value_unwritten held oid (Move container to ∷ us) idle = value_unwritten held oid us idle
 
 -- updates that write the object decide its value alone
 pub value_written : (held other : Option (List ℕ)) (oid : ObjId) (us : List Update) → writes oid us ≡ true
@@ -59,6 +62,7 @@ value_written held other oid (Write at bytes ∷ us) is =
     ] is
 value_written held other oid (Add at id ∷ us) is = value_written held other oid us is
 value_written held other oid (Del at id ∷ us) is = value_written held other oid us is
+value_written held other oid (Move container to ∷ us) is = value_written held other oid us is
 
 -- the one that was found, or else this one, if it passes
 abbrev pub or_else : Option Tid → Bool → Tid → Option Tid

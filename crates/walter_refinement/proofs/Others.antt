@@ -44,12 +44,12 @@ module _ (catalog : Catalog) (i : SiteId) (W : Stands) (h : List Step) (sp : Spe
   pub stays : (wrote : Option Record) → IsMute outcome → IsStill i wrote → BeginsNew (W i).knows wrote
       → goes_down event outcome ≡ false → comes_up event outcome ≡ false
       → epoch_after wrote (W i).knows.epoch ≡ (W i).knows.epoch
-      → ((n : ℕ) → starts_after outcome n ≡ n)
+      → ((n : ℕ) → starts_after event outcome n ≡ n)
       → ((c : ℕ) (s : Session) (vector : List ℕ)
-      → session_in c (sessions_after event outcome wrote vector (W i).knows.sessions) ≡ Some s
+      → session_in c (sessions_after catalog.friends event outcome wrote vector (W i).knows.sessions) ≡ Some s
       → session_in c (W i).knows.sessions ≡ Some s)
       → Spells (at_site i (then_ catalog i (W i) event outcome kept wrote None sends dropped) W)
-      (h ++ (spelled_by W i wrote ++ answered i (W i) outcome event))
+      (h ++ (spelled_by W i wrote ++ answered catalog.friends i (W i) wrote outcome event))
   stays wrote mute still new no_fall no_rise epoch starts sessions =
       let S2 = then_ catalog i (W i) event outcome kept wrote None sends dropped in
       let up_is : S2.up ≡ (W i).up =
@@ -61,9 +61,9 @@ module _ (catalog : Catalog) (i : SiteId) (W : Stands) (h : List Step) (sp : Spe
       let n : S2.knows.starts ≡ (W i).knows.starts = ap (λ (L : Knowledge). L.starts) knows_is
       ∙ starts (W i).knows.starts in
       quiet_entry catalog i W h
-      (spelled_by W i wrote ++ answered i (W i) outcome event) event outcome kept wrote None sends dropped
-      (ap (λ t. t ++ answered i (W i) outcome event) (still_spells W i wrote still)
-      ∙ mute_spells i (W i) outcome event mute) still new
+      (spelled_by W i wrote ++ answered catalog.friends i (W i) wrote outcome event) event outcome kept wrote None sends dropped
+      (ap (λ t. t ++ answered catalog.friends i (W i) wrote outcome event) (still_spells W i wrote still)
+      ∙ mute_spells catalog.friends i (W i) wrote outcome event mute) still new
       (λ x g. subst (λ b. IsIssued (issued_by b S2.knows) x) (sym up_is)
       (issued_same (W i).up (W i).knows S2.knows x e (omega (arith, n)) g))
       (λ c s has. sessions c s (vector_of catalog (recorded catalog i wrote (W i).knows))
@@ -75,7 +75,7 @@ module _ (catalog : Catalog) (i : SiteId) (W : Stands) (h : List Step) (sp : Spe
       → ((s : Session) → in_flight (then_ catalog i (W i) event outcome kept None flight sends dropped).flight
       ≡ Some s → in_flight (W i).flight ≡ Some s)
       → Spells (at_site i (then_ catalog i (W i) event outcome kept None flight sends dropped) W)
-      (h ++ (spelled_by W i None ++ answered i (W i) outcome event))
+      (h ++ (spelled_by W i None ++ answered catalog.friends i (W i) None outcome event))
   falls flight mute fall flights =
       let S2 = then_ catalog i (W i) event outcome kept None flight sends dropped in
       let up_is : S2.up ≡ false =
@@ -84,8 +84,8 @@ module _ (catalog : Catalog) (i : SiteId) (W : Stands) (h : List Step) (sp : Spe
       let knows_is : S2.knows ≡ lost K = ap (λ b. if b then lost K else K) fall in
       let e : S2.knows.epoch ≡ (W i).knows.epoch = ap (λ (L : Knowledge). L.epoch) knows_is in
       quiet_entry catalog i W h
-      (spelled_by W i None ++ answered i (W i) outcome event) event outcome kept None flight sends dropped
-      (mute_spells i (W i) outcome event mute) tt tt
+      (spelled_by W i None ++ answered catalog.friends i (W i) None outcome event) event outcome kept None flight sends dropped
+      (mute_spells catalog.friends i (W i) None outcome event mute) tt tt
       (λ x g. subst (λ b. IsIssued (issued_by b S2.knows) x) (sym up_is)
       (issued_fall (W i).up (W i).knows S2.knows x e g))
       (λ c s has. absurd (let none : ◌≡◌ {A = Option Session} None (Some s) = ap (λ (L : Knowledge). session_of L c)
@@ -103,14 +103,14 @@ module _ (catalog : Catalog) (i : SiteId) (W : Stands) (h : List Step) (sp : Spe
     (sends : List Send) (dropped : ℕ) where
   pub passed : (event : Event)
       → Spells (at_site i (then_ catalog i (W i) event Passed kept None None sends dropped) W)
-      (h ++ (spelled_by W i None ++ answered i (W i) Passed event))
+      (h ++ (spelled_by W i None ++ answered catalog.friends i (W i) None Passed event))
   passed event = let u = still_up event in
       stays catalog i W h sp event Passed kept sends dropped None tt tt tt u.0 u.1 refl (λ n. refl)
       (λ c s vector has. has)
 
   pub was_down : (event : Event)
       → Spells (at_site i (then_ catalog i (W i) event Down kept None None sends dropped) W)
-      (h ++ (spelled_by W i None ++ answered i (W i) Down event))
+      (h ++ (spelled_by W i None ++ answered catalog.friends i (W i) None Down event))
   was_down event = let u = still_up event in
       stays catalog i W h sp event Down kept sends dropped None tt tt tt u.2 u.3 refl (λ n. refl)
       (λ c s vector has. has)
@@ -119,24 +119,25 @@ module _ (catalog : Catalog) (i : SiteId) (W : Stands) (h : List Step) (sp : Spe
   pub taken : (input : Input) (wrote : Option Record) → IsStill i wrote → BeginsNew (W i).knows wrote
       → epoch_after wrote (W i).knows.epoch ≡ (W i).knows.epoch
       → Spells (at_site i (then_ catalog i (W i) (Given input) Taken kept wrote None sends dropped) W)
-      (h ++ (spelled_by W i wrote ++ answered i (W i) Taken (Given input)))
+      (h ++ (spelled_by W i wrote ++ answered catalog.friends i (W i) wrote Taken (Given input)))
   taken input wrote still new epoch =
       stays catalog i W h sp (Given input) Taken kept sends dropped wrote tt still new refl refl epoch (λ n. refl)
       (λ c s vector has. has)
 
   pub stopped : Spells (at_site i (then_ catalog i (W i) Stop Taken kept None None sends dropped) W)
-      (h ++ (spelled_by W i None ++ answered i (W i) Taken Stop))
+      (h ++ (spelled_by W i None ++ answered catalog.friends i (W i) None Taken Stop))
   stopped = falls catalog i W h sp Stop Taken kept sends dropped None tt refl (λ s has. has)
 
   pub unread : Spells (at_site i (then_ catalog i (W i) Restart Failed kept None None sends dropped) W)
-      (h ++ (spelled_by W i None ++ answered i (W i) Failed Restart))
+      (h ++ (spelled_by W i None ++ answered catalog.friends i (W i) None Failed Restart))
   unread = falls catalog i W h sp Restart Failed kept sends dropped None tt refl (λ s has. has)
 
   -- the site comes up, in the next epoch
   pub booted : (W i).up ≡ false
       → Spells (at_site i (then_ catalog i (W i) Restart Taken kept
       (Some (Boot ((W i).knows.epoch + 1))) None sends dropped) W)
-      (h ++ (spelled_by W i (Some (Boot ((W i).knows.epoch + 1))) ++ answered i (W i) Taken Restart))
+      (h ++ (spelled_by W i (Some (Boot ((W i).knows.epoch + 1)))
+      ++ answered catalog.friends i (W i) (Some (Boot ((W i).knows.epoch + 1))) Taken Restart))
   booted down =
       quiet_entry catalog i W h [] Restart Taken kept
       (Some (Boot ((W i).knows.epoch + 1))) None sends dropped refl tt tt

@@ -40,9 +40,10 @@ use Rattle.walter_agreement.proofs.Cases.{decided_not_open, dropped_not_open}
 use Rattle.walter_agreement.proofs.Issued.{IsIssued}
 use Rattle.walter_agreement.proofs.Lists.{filter_push_kept, prefix_get}
 use Rattle.walter_agreement.proofs.Locks.{clear_fast, clear_slow, all_held}
+use Rattle.walter_agreement.proofs.Moved.{none_written}
 use Rattle.walter_agreement.proofs.Numbers.{AreOwned}
-use Rattle.walter_alone.proofs.Alone.{IsAlone, home, issued_of}
-use Rattle.walter_linked.proofs.Agreed.{Stands, Put, logs, owns, counts, slows, parts, at_site, AreAgreed, IsDueOwn, IsDueSeen}
+use Rattle.walter_alone.proofs.Alone.{issued_of}
+use Rattle.walter_linked.proofs.Agreed.{Stands, Put, logs, owns, counts, slows, wants, parts, prefers, at_site, AreAgreed, IsDueOwn, IsDueSeen}
 use Rattle.walter_refinement.specs.Spelled.{recorded as spelled_by, answered, of_session, told, arrived}
 use Rattle.walter_refinement.proofs.Entries.{did_tell_version}
 use Rattle.walter_refinement.proofs.Facts.{row_held, not_blocked}
@@ -70,8 +71,8 @@ row_of log place tx is = elim (slice_get log place) as (λ o. slice_get log plac
       | Some r ↦ λ at some. (r, at, same_Some r.tx tx some)
     ] refl is
 
-module _ (catalog : Catalog) (i : SiteId) (W : Stands) (put : Put) (h : List Step) (A : IsAlone catalog i (W i))
-    (G : AreAgreed catalog W put) (sp : Spells W h) where
+module _ (catalog : Catalog) (i : SiteId) (W : Stands) (put : Put) (h : List Step) (G : AreAgreed catalog W put)
+    (sp : Spells W h) where
   -- an own commit that may come isn't blocked
   pub own_free : (s : Session) (seq : ℕ) → IsDueOwn catalog W i seq (tx_of s) → IsLive (owns W) (counts W) h s
       → ¬ IsBlocked s.tid s.updates h
@@ -82,17 +83,20 @@ module _ (catalog : Catalog) (i : SiteId) (W : Stands) (put : Put) (h : List Ste
       not_blocked (owns W) (counts W) (numbers W) (held W) (spent W) h G.numbered.own sp.spelled s live
       (elim due.decided [
         | inl fast ↦ λ k q r oid here w c.
-            clear_fast (home catalog) (owns W) (logs W) (counts W) (slows W) (parts W) G.locked i s.snapshot
-            (write_set s.updates) place (λ o within. fast.1 o within) fast.2 fast.3 k q r oid here w c
-        | inr slow ↦ λ k q r oid here w c.
-            clear_slow (home catalog) (owns W) (logs W) (counts W) (slows W) (parts W) G.locked i s.slow
-            (tx_of s) slow.1.0 slow.0 slow.1.1 place
-            (all_held (home catalog) (owns W) (logs W) (counts W) (slows W) (parts W) G.locked i s.slow
-            (tx_of s) slow.1.0 slow.1.1 slow.2) k q r oid here w c
+            clear_fast (prefers catalog W) (owns W) (logs W) (counts W) (slows W) (wants W) (parts W) G.locked i
+            s.snapshot (write_set s.updates) place (λ o within. fast.local o within) fast.unmodified fast.unlocked
+            k q r oid here w c
+        | inr (inl voted) ↦ λ k q r oid here w c.
+            clear_slow (prefers catalog W) (owns W) (logs W) (counts W) (slows W) (wants W) (parts W) G.locked i s.slow
+            (tx_of s) voted.asked voted.some voted.undecided place
+            (all_held (prefers catalog W) (owns W) (logs W) (counts W) (slows W) (wants W) (parts W) G.locked i s.slow
+            (tx_of s) voted.asked voted.undecided voted.wanted voted.voted) k q r oid here w c
+        | inr (inr hands) ↦ λ k q r oid here w c.
+            absurd (none_written (record { seq = seq; tx = tx_of s }) hands.container hands.to oid hands.only c)
       ])
 
   -- its record makes the log of own commits longer by it
-  own_log : (x : Tx) (seq : ℕ) → x.tid.site ≡ i → of_site i ((W i).knows.log ++ record { seq = seq; tx = x } ∷ [])
+  pub own_log : (x : Tx) (seq : ℕ) → x.tid.site ≡ i → of_site i ((W i).knows.log ++ record { seq = seq; tx = x } ∷ [])
       ≡ of_site i (W i).knows.log ++ record { seq = seq; tx = x } ∷ []
   own_log x seq here = filter_push_kept (is_of i) (W i).knows.log (record { seq = seq; tx = x })
       (ap (λ k. same_site k i) here ∙ same_site_refl i)
@@ -100,8 +104,9 @@ module _ (catalog : Catalog) (i : SiteId) (W : Stands) (put : Put) (h : List Ste
   -- a session that may commit is open, or its slow commit is being decided
   pub not_decided : (s : Session) (seq : ℕ) → IsDueOwn catalog W i seq (tx_of s) → IsDecidedBy (W i) s → ⊥
   not_decided s seq due done = elim due.decided [
-    | inl fast ↦ done.0 fast.0
-    | inr slow ↦ decided_not_open (slows W i s.slow) done.1.0 (tx_of s) slow.1.0 done.1.1 slow.1.1
+    | inl fast ↦ done.0 fast.fast
+    | inr (inl voted) ↦ decided_not_open (slows W i s.slow) done.1.0 (tx_of s) voted.asked done.1.1 voted.undecided
+    | inr (inr hands) ↦ done.0 hands.fast
   ]
 
   pub not_spent : (who : ℕ) (s : Session) (seq : ℕ) → held_by who (W i) ≡ Some s → IsDueOwn catalog W i seq (tx_of s)
@@ -109,9 +114,10 @@ module _ (catalog : Catalog) (i : SiteId) (W : Stands) (put : Put) (h : List Ste
   not_spent who s seq has due gone =
       let is : gone.0 ≡ s = same_Some gone.0 s (sym gone.3 ∙ has) in
       elim due.decided [
-        | inl fast ↦ gone.4 (ap (λ (z : Session). z.slow) is ∙ fast.0)
-        | inr slow ↦ dropped_not_open (slows W i s.slow) gone.1 (tx_of s) gone.2 slow.1.0
-            (subst (λ (z : Session). slows W i z.slow ≡ Dropped gone.1 gone.2) is gone.5) slow.1.1
+        | inl fast ↦ gone.4 (ap (λ (z : Session). z.slow) is ∙ fast.fast)
+        | inr (inl voted) ↦ dropped_not_open (slows W i s.slow) gone.1 (tx_of s) gone.2 voted.asked
+            (subst (λ (z : Session). slows W i z.slow ≡ Dropped gone.1 gone.2) is gone.5) voted.undecided
+        | inr (inr hands) ↦ gone.4 (ap (λ (z : Session). z.slow) is ∙ hands.fast)
       ]
 
   -- how the site stands once the own commit is recorded: it holds fewer, and goes on
@@ -137,16 +143,17 @@ module _ (catalog : Catalog) (i : SiteId) (W : Stands) (put : Put) (h : List Ste
       (ap (λ l. of_site i l) log_is ∙ own_log (tx_of s) seq due.site) counts_are has live
       (not_spent who s seq has due) due.site refl (λ k. refl) refl due.some (own_free s seq due live)
       (λ now. elim due.decided [
-        | inl fast ↦ absurd (closed fast.0 now)
-        | inr slow ↦ (
-          slow.0,
+        | inl fast ↦ absurd (closed fast.fast now)
+        | inr (inl voted) ↦ (
+          voted.some,
           (
             tx_of s,
             slow_is s.slow
                 ∙ (ap (λ b. if b then decided ((W i).knows.slow s.slow) else (W i).knows.slow s.slow)
-                (eq-eqb s.slow s.slow refl) ∙ ap decided slow.1.1),
+                (eq-eqb s.slow s.slow refl) ∙ ap decided voted.undecided),
           ),
         )
+        | inr (inr hands) ↦ absurd (closed hands.fast now)
       ]) sp
 
   module _ (kept : Option Record) (sends : List Send) (dropped : ℕ) where
@@ -159,7 +166,8 @@ module _ (catalog : Catalog) (i : SiteId) (W : Stands) (put : Put) (h : List Ste
         (Replied (Committed (own_version i seq))) kept (Some (Own seq (tx_of s))) None sends dropped) W))
         → Spells (at_site i (then_ catalog i (W i) (Given (Call client (Ok CommitAsked)))
         (Replied (Committed (own_version i seq))) kept (Some (Own seq (tx_of s))) None sends dropped) W)
-        (h ++ (spelled_by W i (Some (Own seq (tx_of s))) ++ answered i (W i) (Replied (Committed (own_version i seq)))
+        (h ++ (spelled_by W i (Some (Own seq (tx_of s)))
+        ++ answered catalog.friends i (W i) (Some (Own seq (tx_of s))) (Replied (Committed (own_version i seq)))
         (Given (Call client (Ok CommitAsked)))))
     committed_so client s seq open_ due owned_after =
         let S2 = then_ catalog i (W i) (Given (Call client (Ok CommitAsked)))
@@ -182,7 +190,7 @@ module _ (catalog : Catalog) (i : SiteId) (W : Stands) (put : Put) (h : List Ste
         (did_tell_version (owns Then) (counts Then) (numbers Then) (held Then) (spent Then)
         (h ++ Commit s.tid s.updates ∷ []) first.spelled i (length (owns W i)) r (held Then) owned_after here
         (λ d t has. has)) first in
-        let spelled_ : answered i (W i) (Replied (Committed (own_version i seq)))
+        let spelled_ : answered catalog.friends i (W i) (Some (Own seq (tx_of s))) (Replied (Committed (own_version i seq)))
         (Given (Call client (Ok CommitAsked))) ≡ step ∷ [] =
         ap (λ o. of_session (told (own_version i seq)) o) open_.session ∙ ap (λ v. Told s.tid (OfVersion v) ∷ [])
         (sym version) in
@@ -194,7 +202,7 @@ module _ (catalog : Catalog) (i : SiteId) (W : Stands) (put : Put) (h : List Ste
         → IsDueOwn catalog W i seq (tx_of s)
         → Spells (at_site i (then_ catalog i (W i) (Given (Deliver p number (Vote n Yes))) Taken kept
         (Some (Own seq (tx_of s))) None sends dropped) W)
-        (h ++ (spelled_by W i (Some (Own seq (tx_of s))) ++ answered i (W i) Taken
+        (h ++ (spelled_by W i (Some (Own seq (tx_of s))) ++ answered catalog.friends i (W i) (Some (Own seq (tx_of s))) Taken
         (Given (Deliver p number (Vote n Yes)))))
     decided_so p number n seq c s has some due =
         let S2 = then_ catalog i (W i) (Given (Deliver p number (Vote n Yes))) Taken kept
@@ -235,7 +243,7 @@ module _ (catalog : Catalog) (i : SiteId) (W : Stands) (put : Put) (h : List Ste
     pub seen_so : (j : SiteId) (seq : ℕ) → IsDueSeen W i j seq
         → Spells (at_site i (then_ catalog i (W i) (Given (Advance j)) Taken kept
         (Some (Seen j seq)) None sends dropped) W)
-        (h ++ (spelled_by W i (Some (Seen j seq)) ++ answered i (W i) Taken (Given (Advance j))))
+        (h ++ (spelled_by W i (Some (Seen j seq)) ++ answered catalog.friends i (W i) (Some (Seen j seq)) Taken (Given (Advance j))))
     seen_so j seq due =
         let S2 = then_ catalog i (W i) (Given (Advance j)) Taken kept (Some (Seen j seq)) None sends dropped in
         subst (λ t. Spells (at_site i S2 W) (h ++ t)) (sym (append-nil (spelled_by W i (Some (Seen j seq)))))

@@ -4,15 +4,14 @@ use Rattle.std.specs.Prelude.{Option, IfSome}
 use Rattle.std.proofs.lemmas.List.{append-nil, append_assoc}
 use Rattle.walter_base.specs.declared.catalog.Catalog.{Catalog}
 use Rattle.walter_base.specs.declared.message.Record.{Record}
-use Rattle.walter_base.specs.declared.names.ObjId.{ObjId}
 use Rattle.walter_base.specs.declared.names.SiteId.{SiteId}
 use Rattle.walter_psi.specs.declared.step.Step.{Step}
 use Rattle.walter_rules.specs.declared.entry.Came.{Came}
 use Rattle.walter_rules.specs.declared.event.Event.{Event}
 use Rattle.walter_rules.specs.declared.event.Event.TheVariants.{Restart}
 use Rattle.walter_rules.specs.declared.outcome.Outcome.{Outcome}
+use Rattle.walter_rules.specs.Allowed.{IsKind, is_refused, starts, does, reads, ends, aborts, conflicts, commits, begins, moves, waits, tells_version, tells_cause, levels_own, is_deciding, is_running, denies, passes, receives, hears_ack, hears_durable, hears_visible, marks_durable, marks_visible, prepares, hears_yes, decides, gives_up, releases, hears_released, sees, upgrades, stops, is_down, boots, tells_token}
 use Rattle.walter_rules.specs.declared.outcome.Outcome.TheVariants.{Failed}
-use Rattle.walter_rules.specs.Allowed.{IsKind, is_refused, starts, does, reads, ends, aborts, conflicts, commits, begins, waits, tells_version, tells_cause, levels_own, is_deciding, is_running, denies, passes, receives, hears_ack, hears_durable, hears_visible, marks_durable, marks_visible, prepares, hears_yes, decides, gives_up, releases, hears_released, sees, upgrades, stops, is_down, boots}
 use Rattle.walter_rules.specs.Layouts.{Layout}
 use Rattle.walter_rules.specs.Merges.{Named}
 use Rattle.walter_rules.specs.Sessions.{Session}
@@ -21,11 +20,11 @@ use Rattle.walter_rules.specs.Trails.{IsFound}
 use Rattle.walter_runs.specs.Runs.{stands, IsPut, IsRun}
 use Rattle.walter_runs.proofs.Steps.{IsStep, stable, flies, unread_step, wants, finds_full}
 use Rattle.walter_agreement.proofs.Numbers.{AreOwned}
-use Rattle.walter_alone.proofs.Alone.{IsAlone, home}
+use Rattle.walter_alone.proofs.Alone.{IsAlone, HasHomes}
 use Rattle.walter_alone.proofs.KeptSteps.{right_alone, settled_alone}
 use Rattle.walter_linked.proofs.Agreed.{Stands, Put, owns, counts, at_site, AreAgreed, IsDue}
 use Rattle.walter_linked.proofs.Runs.{found, stands_here, stands_away, run_alone, found_alone, next_step, run_agrees, settled_agrees, kept_due, wrote_due, flight_due}
-use Rattle.walter_refinement.specs.Spelled.{recorded, answered, history}
+use Rattle.walter_refinement.specs.Spelled.{recorded, answered, opened, history}
 use Rattle.walter_refinement.proofs.Entries.{spelled_none}
 use Rattle.walter_refinement.proofs.Flights.{kept_so}
 use Rattle.walter_refinement.proofs.Going.{IsStill, then_}
@@ -50,7 +49,8 @@ step_keeps : (catalog : Catalog) (i : SiteId) (W : Stands) (put : Put) (h : List
     → AreOwned (owns (at_site i (stands_after catalog i (W i) event came) W))
     (counts (at_site i (stands_after catalog i (W i) event came) W))
     → Spells (at_site i (stands_after catalog i (W i) event came) W)
-    (h ++ (recorded W i came.wrote ++ answered i (W i) came.outcome event))
+    (h ++ (opened i came.wrote came.outcome event
+    ++ (recorded W i came.wrote ++ answered catalog.friends i (W i) came.wrote came.outcome event)))
 step_keeps catalog i W put h below alone G sp event came (stable kind none sent) due due_flight numbered =
     subst (λ f. Keeps catalog i W put h below alone G sp came.kept came.sends came.dropped event came.outcome came.wrote f) (sym none)
     (kind_keeps catalog i W put h below alone G sp came.kept came.sends came.dropped event came.wrote came.outcome kind (if_due (IsDue catalog W put i) came.wrote due)
@@ -94,7 +94,7 @@ step_keeps catalog i W put h below alone G sp event came
 restart_still : (catalog : Catalog) (i : SiteId) (S : Standing) (event : Event) (wrote : Option Record)
     (outcome : Outcome) → event ≡ Restart → IsKind catalog i S event wrote outcome → IsStill i wrote
 restart_still catalog i S event wrote outcome e (is_refused client call refusal) = tt
-restart_still catalog i S event wrote outcome e (starts client up none) = tt
+restart_still catalog i S event wrote outcome e (starts client call up none asks) = tt
 restart_still catalog i S event wrote outcome e (does client call s update open_ is declared) = tt
 restart_still catalog i S event wrote outcome e (reads client call s reply open_ is) = tt
 restart_still catalog i S event wrote outcome e (ends client s open_ none) = tt
@@ -102,6 +102,7 @@ restart_still catalog i S event wrote outcome e (aborts client s open_) = tt
 restart_still catalog i S event wrote outcome e (conflicts client s conflict open_ first) = tt
 restart_still catalog i S event wrote outcome e (commits client s open_ some local clear) = absurd (cc)
 restart_still catalog i S event wrote outcome e (begins client s open_ some clear) = tt
+restart_still catalog i S event wrote outcome e (moves client container to may) = absurd (cc)
 restart_still catalog i S event wrote outcome e (waits client s tx asked begun_ undecided) = tt
 restart_still catalog i S event wrote outcome e (tells_version client s tx seq begun_ decided is) = tt
 restart_still catalog i S event wrote outcome e (tells_cause client s tx asked conflict begun_ lost said) = tt
@@ -109,6 +110,7 @@ restart_still catalog i S event wrote outcome e (levels_own client tid seq up he
 restart_still catalog i S event wrote outcome e (is_deciding client tid up) = tt
 restart_still catalog i S event wrote outcome e (is_running client tid up) = tt
 restart_still catalog i S event wrote outcome e (denies client tid up here issued none undecided open_) = tt
+restart_still catalog i S event wrote outcome e (tells_token client up) = tt
 restart_still catalog i S event wrote outcome e (passes same) = tt
 restart_still catalog i S event wrote outcome e (receives j number seq tx peer next) = absurd (cc)
 restart_still catalog i S event wrote outcome e (hears_ack j number got peer low) = tt
@@ -152,7 +154,7 @@ spells_none catalog = record {
   decided = λ d s has. absurd (let clash : ◌≡◌ {A = Option Session} None (Some s) = sym (none_held d.who) ∙ has in cc);
 }
 
-module _ (catalog : Catalog) (layouts : SiteId → Layout) (homes : (oid : ObjId) → (home catalog oid).0 < catalog.sites) where
+module _ (catalog : Catalog) (layouts : SiteId → Layout) (homes : HasHomes catalog) where
   module _ (older : List Named) (n : Named) (is : IsRun catalog layouts (n ∷ older))
       (sp : Spells (stands catalog older) (history catalog older)) where
     -- behind what was found of a record in flight
@@ -178,19 +180,19 @@ module _ (catalog : Catalog) (layouts : SiteId → Layout) (homes : (oid : ObjId
         (run_agrees catalog layouts homes (λ (k : SiteId). right_alone catalog (layouts k) k)
         (λ (k : SiteId). settled_alone catalog (layouts k) k) older is.0) sp r found_.down found_.in_flight (due r refl)
 
+    -- the steps of the entry, where all stand so
+    abbrev steps_in : Stands → List Step
+    steps_in W = opened n.0 n.1.came.wrote n.1.came.outcome n.1.event
+        ++ (recorded W n.0 n.1.came.wrote ++ answered catalog.friends n.0 (W n.0) n.1.came.wrote n.1.came.outcome n.1.event)
+
     -- the steps of the entry are those behind what was found
     same_steps : (kept : Option Record) → IfSome kept (IsFound (stands catalog older n.0) n.1.event)
         → IsStep catalog n.0 (at_site n.0 (settled catalog n.0 kept (stands catalog older n.0))
         (stands catalog older) n.0) n.1.event n.1.came
-        → recorded (at_site n.0 (settled catalog n.0 kept (stands catalog older n.0))
-        (stands catalog older)) n.0 n.1.came.wrote ++ answered n.0
-        (at_site n.0 (settled catalog n.0 kept (stands catalog older n.0))
-        (stands catalog older) n.0) n.1.came.outcome n.1.event
-        ≡ recorded (stands catalog older) n.0 n.1.came.wrote ++ answered n.0
-        (stands catalog older n.0) n.1.came.outcome n.1.event
+        → steps_in (at_site n.0 (settled catalog n.0 kept (stands catalog older n.0)) (stands catalog older))
+        ≡ steps_in (stands catalog older)
     same_steps None found_ step =
-        ap (λ (W : Stands). recorded W n.0 n.1.came.wrote ++ answered n.0 (W n.0) n.1.came.outcome n.1.event)
-        (λ t k. same_at k t)
+        ap (λ (W : Stands). steps_in W) (λ t k. same_at k t)
       where
         same_at : (k : SiteId) → at_site n.0 (stands catalog older n.0) (stands catalog older) k
             ≡ stands catalog older k
@@ -201,11 +203,12 @@ module _ (catalog : Catalog) (layouts : SiteId → Layout) (homes : (oid : ObjId
     same_steps (Some r) found_ step =
         let Found = at_site n.0 (settled catalog n.0 (Some r) (stands catalog older n.0)) (stands catalog older) in
         let still = restart_step_still catalog n.0 (Found n.0) n.1.event n.1.came found_.restart step in
-        let quiet : (S : Standing) → answered n.0 S n.1.came.outcome n.1.event ≡ [] =
-        λ S. ap (λ e. answered n.0 S n.1.came.outcome e) found_.restart in
-        (λ t. still_spells Found n.0 n.1.came.wrote still t ++ quiet (Found n.0) t)
-        ∙ sym (λ t. still_spells (stands catalog older) n.0 n.1.came.wrote still t ++ quiet
-        (stands catalog older n.0) t)
+        let quiet : (S : Standing) → answered catalog.friends n.0 S n.1.came.wrote n.1.came.outcome n.1.event ≡ [] =
+        λ S. ap (λ e. answered catalog.friends n.0 S n.1.came.wrote n.1.came.outcome e) found_.restart in
+        let first : List Step = opened n.0 n.1.came.wrote n.1.came.outcome n.1.event in
+        (λ t. first ++ (still_spells Found n.0 n.1.came.wrote still t ++ quiet (Found n.0) t))
+        ∙ sym (λ t. first ++ (still_spells (stands catalog older) n.0 n.1.came.wrote still t
+        ++ quiet (stands catalog older n.0) t))
 
     entry_spells : Spells (stands catalog (n ∷ older)) (history catalog (n ∷ older))
     entry_spells =
@@ -235,15 +238,12 @@ module _ (catalog : Catalog) (layouts : SiteId → Layout) (homes : (oid : ObjId
         (flight_due catalog layouts homes right settles older n is) numbered in
         let steps = same_steps n.1.came.kept is.1.right.kept step in
         let joined : (history catalog older ++ recorded (stands catalog older) i n.1.came.kept) ++
-        (recorded Found i n.1.came.wrote ++ answered i (Found i) n.1.came.outcome n.1.event) ≡ history catalog
-        (n ∷ older) =
-        append_assoc (history catalog older) (recorded (stands catalog older) i n.1.came.kept)
-        (recorded Found i n.1.came.wrote ++ answered i (Found i) n.1.came.outcome n.1.event)
+        steps_in Found ≡ history catalog (n ∷ older) =
+        append_assoc (history catalog older) (recorded (stands catalog older) i n.1.came.kept) (steps_in Found)
         ∙ ap (λ t. history catalog older ++ (recorded (stands catalog older) i n.1.came.kept ++ t)) steps in
         subst (λ t. Spells (stands catalog (n ∷ older)) t) joined
         (subst (λ (W : Stands). Spells W
-        ((history catalog older ++ recorded (stands catalog older) i n.1.came.kept) ++
-        (recorded Found i n.1.came.wrote ++ answered i (Found i) n.1.came.outcome n.1.event))) path second)
+        ((history catalog older ++ recorded (stands catalog older) i n.1.came.kept) ++ steps_in Found)) path second)
 
   -- each run spells what its sites say
   pub run_spells : (run : List Named) → IsRun catalog layouts run → Spells (stands catalog run) (history catalog run)

@@ -7,7 +7,7 @@ use Rattle.walter_base.specs.declared.message.Record.{Record}
 use Rattle.walter_base.specs.declared.message.Record.TheVariants.{Boot, Own, Got, Seen, Prepared, Released, SlowEnd, Marks, Format as FormatRecord}
 use Rattle.walter_base.specs.declared.message.Refusal.TheVariants.{Memory as NoMemory, JournalFull}
 use Rattle.walter_base.specs.declared.message.Reply.TheVariants.{Unsure}
-use Rattle.walter_base.specs.declared.message.Request.TheVariants.{Start as StartAsked, Commit as CommitAsked, Abort as AbortAsked}
+use Rattle.walter_base.specs.declared.message.Request.TheVariants.{Commit as CommitAsked, Abort as AbortAsked, Token as TokenAsked}
 use Rattle.walter_base.specs.declared.names.SiteId.{SiteId}
 use Rattle.walter_base.specs.declared.packet.Answer.TheVariants.{Yes, No}
 use Rattle.walter_base.specs.declared.packet.Packet.TheVariants.{Propagate, Ack, Dsmark, Visible as VisibleSaid, Prepare, Vote, Release, Released as ReleasedSaid}
@@ -19,9 +19,10 @@ use Rattle.walter_rules.specs.declared.event.Event.TheVariants.{Given, Stop, Res
 use Rattle.walter_rules.specs.declared.event.Input.TheVariants.{Call, Deliver, Advance, Tick, Upgrade}
 use Rattle.walter_rules.specs.declared.outcome.Outcome.{Outcome}
 use Rattle.walter_rules.specs.declared.outcome.Outcome.TheVariants.{Replied, Failed, Full, Memory}
-use Rattle.walter_rules.specs.Allowed.{IsKind, is_refused, starts, does, reads, ends, aborts, conflicts, commits, begins, waits, tells_version, tells_cause, levels_own, is_deciding, is_running, denies, passes, receives, hears_ack, hears_durable, hears_visible, marks_durable, marks_visible, prepares, hears_yes, decides, gives_up, releases, hears_released, sees, upgrades, stops, is_down, boots}
+use Rattle.walter_rules.specs.Allowed.{IsKind, is_refused, starts, does, reads, ends, aborts, conflicts, commits, begins, moves, waits, tells_version, tells_cause, levels_own, is_deciding, is_running, denies, passes, receives, hears_ack, hears_durable, hears_visible, marks_durable, marks_visible, prepares, hears_yes, decides, gives_up, releases, hears_released, sees, upgrades, stops, is_down, boots, tells_token}
 use Rattle.walter_rules.specs.Sending.{Send}
 use Rattle.walter_rules.specs.Calls.{next_seq}
+use Rattle.walter_rules.specs.Knowledge.{vector_of}
 use Rattle.walter_rules.specs.Marks.{durable_mark, visible_mark}
 use Rattle.walter_rules.specs.Sessions.{Session, tx_of}
 use Rattle.walter_rules.specs.Slow.{begun}
@@ -31,9 +32,10 @@ use Rattle.walter_agreement.proofs.Cases.{same_open}
 use Rattle.walter_agreement.proofs.Numbers.{AreOwned}
 use Rattle.walter_alone.proofs.Alone.{IsAlone}
 use Rattle.walter_linked.proofs.Agreed.{Stands, Put, owns, counts, at_site, AreAgreed, IsDue, IsDueOwn}
-use Rattle.walter_refinement.proofs.CallSteps.{refused, waits_on, ended, aborted_so, started_so, open_live}
+use Rattle.walter_refinement.proofs.CallSteps.{refused, token_told, waits_on, ended, aborted_so, started_so, open_live}
 use Rattle.walter_refinement.proofs.Flights.{begun_so, own_flies}
 use Rattle.walter_refinement.proofs.Going.{then_}
+use Rattle.walter_refinement.proofs.Handed.{moves_so, moves_fly}
 use Rattle.walter_refinement.proofs.KindSteps.{Keeps, updates_so, reads_so, levels_so, level_quiet, denies_so, tells_version_so, tells_cause_so, conflicts_so, decides_so}
 use Rattle.walter_refinement.proofs.Moves.{in_flight, Spells}
 use Rattle.walter_refinement.proofs.Others.{stays, falls, passed, was_down, taken, stopped, booted}
@@ -58,8 +60,8 @@ module _ (catalog : Catalog) (i : SiteId) (W : Stands) (put : Put) (h : List Ste
       → IsNumberedThen event outcome wrote → Kept event outcome wrote None
   kind_keeps event wrote outcome (is_refused client call refusal) due numbered =
       refused catalog i W put h (alone i) G sp client call kept sends dropped refusal
-  kind_keeps event wrote outcome (starts client up none) due numbered =
-      started_so catalog i W put h (alone i) G sp client (Ok StartAsked) kept sends dropped up below none
+  kind_keeps event wrote outcome (starts client call up none asks) due numbered =
+      started_so catalog i W put h (alone i) G sp client call kept sends dropped up below none
   kind_keeps event wrote outcome (does client call s update open_ is declared) due numbered =
       updates_so catalog i W put h below alone G sp kept sends dropped client call s update open_ is
   kind_keeps event wrote outcome (reads client call s reply open_ is) due numbered =
@@ -72,9 +74,11 @@ module _ (catalog : Catalog) (i : SiteId) (W : Stands) (put : Put) (h : List Ste
   kind_keeps event wrote outcome (conflicts client s conflict open_ first) due numbered =
       conflicts_so catalog i W put h below alone G sp kept sends dropped client s conflict open_ first
   kind_keeps event wrote outcome (commits client s open_ some local clear) due numbered =
-      committed_so catalog i W put h (alone i) G sp kept sends dropped client s _ open_ due numbered
+      committed_so catalog i W put h G sp kept sends dropped client s _ open_ due numbered
   kind_keeps event wrote outcome (begins client s open_ some clear) due numbered =
       begun_so catalog i W put h (alone i) G sp client s kept sends dropped open_
+  kind_keeps event wrote outcome (moves client container to may) due numbered =
+      moves_so catalog i W put h below (alone i) G sp may.up container to client kept sends dropped numbered
   kind_keeps event wrote outcome (waits client s tx asked begun_ undecided) due numbered =
       waits_on catalog i W put h (alone i) G sp client (Ok CommitAsked) kept sends dropped s.tid
   kind_keeps event wrote outcome (tells_version client s tx seq begun_ decided is) due numbered =
@@ -89,6 +93,9 @@ module _ (catalog : Catalog) (i : SiteId) (W : Stands) (put : Put) (h : List Ste
       level_quiet catalog i W put h below alone G sp kept sends dropped client tid Running refl
   kind_keeps event wrote outcome (denies client tid up here issued none undecided open_) due numbered =
       denies_so catalog i W put h below alone G sp kept sends dropped client tid up here issued none undecided open_
+  kind_keeps event wrote outcome (tells_token client up) due numbered =
+      token_told catalog i W put h (alone i) G sp client (Ok TokenAsked) kept sends dropped
+      (vector_of catalog (W i).knows)
   kind_keeps event wrote outcome (passes same) due numbered = passed catalog i W h sp kept sends dropped event
   kind_keeps event wrote outcome (receives j number seq tx peer next) due numbered =
       taken catalog i W h sp kept sends dropped (Deliver j number (Propagate seq tx)) (Some (Got j seq tx))
@@ -118,7 +125,7 @@ module _ (catalog : Catalog) (i : SiteId) (W : Stands) (put : Put) (h : List Ste
   kind_keeps event wrote outcome (hears_released j number n peer) due numbered =
       taken catalog i W h sp kept sends dropped (Deliver j number (ReleasedSaid n)) None tt tt refl
   kind_keeps event wrote outcome (sees j tx peer due_there) due numbered =
-      seen_so catalog i W put h (alone i) G sp kept sends dropped j _ due
+      seen_so catalog i W put h G sp kept sends dropped j _ due
   kind_keeps event wrote outcome (stops up) due numbered = stopped catalog i W h sp kept sends dropped
   kind_keeps event wrote outcome (upgrades up first) due numbered =
       taken catalog i W h sp kept sends dropped Upgrade (Some FormatRecord) tt tt refl
@@ -139,7 +146,7 @@ module _ (catalog : Catalog) (i : SiteId) (W : Stands) (put : Put) (h : List Ste
   pub kind_flies : (event : Event) (wrote : Option Record) (outcome : Outcome)
       → IsKind catalog i (W i) event wrote outcome → IfSome wrote (IsDue catalog W put i) → KeptFlying event wrote
   kind_flies event wrote outcome (is_refused client call refusal) due = tt
-  kind_flies event wrote outcome (starts client up none) due = tt
+  kind_flies event wrote outcome (starts client call up none asks) due = tt
   kind_flies event wrote outcome (does client call s update open_ is declared) due = tt
   kind_flies event wrote outcome (reads client call s reply open_ is) due = tt
   kind_flies event wrote outcome (ends client s open_ none) due = tt
@@ -152,6 +159,8 @@ module _ (catalog : Catalog) (i : SiteId) (W : Stands) (put : Put) (h : List Ste
       falls catalog i W h sp (Given (Call client (Ok CommitAsked)))
       (Replied (Unsure s.tid)) kept sends dropped wrote tt refl
       (λ t has. absurd (let clash : ◌≡◌ {A = Option Session} None (Some t) = has in cc))
+  kind_flies event wrote outcome (moves client container to may) due =
+      moves_fly catalog i W put h below (alone i) G sp may.up container to client kept sends dropped
   kind_flies event wrote outcome (waits client s tx asked begun_ undecided) due = tt
   kind_flies event wrote outcome (tells_version client s tx seq begun_ decided is) due = tt
   kind_flies event wrote outcome (tells_cause client s tx asked conflict begun_ lost said) due = tt
@@ -159,6 +168,7 @@ module _ (catalog : Catalog) (i : SiteId) (W : Stands) (put : Put) (h : List Ste
   kind_flies event wrote outcome (is_deciding client tid up) due = tt
   kind_flies event wrote outcome (is_running client tid up) due = tt
   kind_flies event wrote outcome (denies client tid up here issued none undecided open_) due = tt
+  kind_flies event wrote outcome (tells_token client up) due = tt
   kind_flies event wrote outcome (passes same) due = tt
   kind_flies event wrote outcome (receives j number seq tx peer next) due = falls_with event (Got j seq tx) refl refl
   kind_flies event wrote outcome (hears_ack j number got peer low) due = tt

@@ -1,9 +1,9 @@
 -- Which outcomes and records spell nothing.
-use Rattle.std.proofs.Common.{◌≡◌, [], refl, Some, None}
+use Rattle.std.proofs.Common.{◌≡◌, ℕ, [], refl, Some, None}
 use Rattle.std.specs.Prelude.{Option}
 use Rattle.walter_base.specs.declared.message.Record.{Record}
 use Rattle.walter_base.specs.declared.message.Record.TheVariants.{Boot, Own, Got, Seen, Prepared, Released, SlowBegin, SlowEnd, Marks, Format as FormatRecord}
-use Rattle.walter_base.specs.declared.message.Reply.TheVariants.{Started, Value, Done, Set, Count, Committed, Aborted, Deciding, Level, Ended, Refused, Unsure}
+use Rattle.walter_base.specs.declared.message.Reply.TheVariants.{Started, Value, Done, Set, Count, Committed, Aborted, Deciding, Level, Ended, Refused, Unsure, Token}
 use Rattle.walter_base.specs.declared.names.SiteId.{SiteId}
 use Rattle.walter_rules.specs.declared.event.Event.{Event}
 use Rattle.walter_rules.specs.declared.event.Event.TheVariants.{Given, Stop, Restart}
@@ -29,33 +29,35 @@ IsMute Memory = Unit {0}
 IsMute Down = Unit {0}
 IsMute RefusedThere = Unit {0}
 
-pub mute_spells : (i : SiteId) (S : Standing) (outcome : Outcome) (event : Event) → IsMute outcome
-    → answered i S outcome event ≡ []
-mute_spells i S (Replied (Started tid)) (Given (Call client call)) mute = absurd mute
-mute_spells i S (Replied (Value value)) (Given (Call client call)) mute = absurd mute
-mute_spells i S (Replied Done) (Given (Call client call)) mute = absurd mute
-mute_spells i S (Replied (Set counts)) (Given (Call client call)) mute = absurd mute
-mute_spells i S (Replied (Count n)) (Given (Call client call)) mute = absurd mute
-mute_spells i S (Replied (Committed version)) (Given (Call client call)) mute = absurd mute
-mute_spells i S (Replied (Aborted cause)) (Given (Call client call)) mute = absurd mute
-mute_spells i S (Replied (Deciding tid)) (Given (Call client call)) mute = absurd mute
-mute_spells i S (Replied (Level level)) (Given (Call client call)) mute = absurd mute
-mute_spells i S (Replied Ended) (Given (Call client call)) mute = absurd mute
-mute_spells i S (Replied (Refused refusal)) (Given (Call client call)) mute = refl
-mute_spells i S (Replied (Unsure tid)) (Given (Call client call)) mute = refl
-mute_spells i S Taken (Given (Call client call)) mute = refl
-mute_spells i S Passed (Given (Call client call)) mute = refl
-mute_spells i S Failed (Given (Call client call)) mute = refl
-mute_spells i S (Full need left) (Given (Call client call)) mute = refl
-mute_spells i S Memory (Given (Call client call)) mute = refl
-mute_spells i S Down (Given (Call client call)) mute = refl
-mute_spells i S RefusedThere (Given (Call client call)) mute = refl
-mute_spells i S outcome (Given (Deliver from number packet)) mute = refl
-mute_spells i S outcome (Given (Advance from)) mute = refl
-mute_spells i S outcome (Given Tick) mute = refl
-mute_spells i S outcome (Given Upgrade) mute = refl
-mute_spells i S outcome Stop mute = refl
-mute_spells i S outcome Restart mute = refl
+pub mute_spells : (friends : Option ℕ) (i : SiteId) (S : Standing) (wrote : Option Record) (outcome : Outcome) (event : Event)
+    → IsMute outcome
+    → answered friends i S wrote outcome event ≡ []
+mute_spells friends i S wrote (Replied (Started tid)) (Given (Call client call)) mute = absurd mute
+mute_spells friends i S wrote (Replied (Value value)) (Given (Call client call)) mute = absurd mute
+mute_spells friends i S wrote (Replied Done) (Given (Call client call)) mute = absurd mute
+mute_spells friends i S wrote (Replied (Set counts)) (Given (Call client call)) mute = absurd mute
+mute_spells friends i S wrote (Replied (Count n)) (Given (Call client call)) mute = absurd mute
+mute_spells friends i S wrote (Replied (Committed version)) (Given (Call client call)) mute = absurd mute
+mute_spells friends i S wrote (Replied (Aborted cause)) (Given (Call client call)) mute = absurd mute
+mute_spells friends i S wrote (Replied (Deciding tid)) (Given (Call client call)) mute = absurd mute
+mute_spells friends i S wrote (Replied (Level level)) (Given (Call client call)) mute = absurd mute
+mute_spells friends i S wrote (Replied Ended) (Given (Call client call)) mute = absurd mute
+mute_spells friends i S wrote (Replied (Token token)) (Given (Call client call)) mute = absurd mute
+mute_spells friends i S wrote (Replied (Refused refusal)) (Given (Call client call)) mute = refl
+mute_spells friends i S wrote (Replied (Unsure tid)) (Given (Call client call)) mute = refl
+mute_spells friends i S wrote Taken (Given (Call client call)) mute = refl
+mute_spells friends i S wrote Passed (Given (Call client call)) mute = refl
+mute_spells friends i S wrote Failed (Given (Call client call)) mute = refl
+mute_spells friends i S wrote (Full need left) (Given (Call client call)) mute = refl
+mute_spells friends i S wrote Memory (Given (Call client call)) mute = refl
+mute_spells friends i S wrote Down (Given (Call client call)) mute = refl
+mute_spells friends i S wrote RefusedThere (Given (Call client call)) mute = refl
+mute_spells friends i S wrote outcome (Given (Deliver from number packet)) mute = refl
+mute_spells friends i S wrote outcome (Given (Advance from)) mute = refl
+mute_spells friends i S wrote outcome (Given Tick) mute = refl
+mute_spells friends i S wrote outcome (Given Upgrade) mute = refl
+mute_spells friends i S wrote outcome Stop mute = refl
+mute_spells friends i S wrote outcome Restart mute = refl
 
 -- a record that commits nothing here spells nothing
 pub still_spells : (W : SiteId → Standing) (i : SiteId) (rec : Option Record) → IsStill i rec → recorded W i rec ≡ []

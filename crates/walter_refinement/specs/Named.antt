@@ -8,8 +8,9 @@ use Rattle.walter_base.specs.declared.names.SiteId.{SiteId}
 use Rattle.walter_base.specs.declared.packet.Answer.TheVariants.{No}
 use Rattle.walter_base.specs.declared.packet.Packet.TheVariants.{Prepare, Vote}
 use Rattle.walter_base.specs.declared.transaction.Cause.{Cause}
-use Rattle.walter_base.specs.declared.transaction.Cause.TheVariants.{Modified, Locked, Asked}
+use Rattle.walter_base.specs.declared.transaction.Cause.TheVariants.{Modified, Locked, Asked, Moving}
 use Rattle.walter_base.specs.declared.transaction.Conflict.{Conflict}
+use Rattle.walter_base.specs.declared.transaction.Conflict.TheVariants.{Moving as MovingThere}
 use Rattle.walter_base.specs.Values.{write_set}
 use Rattle.walter_rules.specs.declared.entry.Entry.{Entry}
 use Rattle.walter_rules.specs.declared.event.Event.TheVariants.{Given}
@@ -33,6 +34,13 @@ pub record IsMetAt (catalog : Catalog) (p : SiteId) (K : Knowledge) (s : Session
   -- the owner of the lock isn't seen by the snapshot: all that it sees is there, and not that one
   pub unseen : IsOwnerUnseen K s.snapshot conflict
 
+-- or the object that it writes isn't preferred there
+pub record IsAwayAt (catalog : Catalog) (p : SiteId) (K : Knowledge) (s : Session) (conflict : Conflict) : Type 0 where
+  pub oid : ObjId
+  pub written : Contains (write_set s.updates) oid
+  pub away : preferred catalog K oid ≢ p
+  pub is : conflict ≡ MovingThere oid
+
 -- another site met it, at a PREPARE of the transaction, and put out its NO
 pub record IsMetThere (catalog : Catalog) (older : List Named) (i : SiteId) (s : Session)
     (conflict : Conflict) : Type 0 where
@@ -47,6 +55,7 @@ pub record IsMetThere (catalog : Catalog) (older : List Named) (i : SiteId) (s :
   pub came : entry.event ≡ Given (Deliver i number (Prepare s.slow s.tid s.snapshot objects))
   pub sent : Contains entry.came.sends (i, Vote s.slow (No conflict))
   pub met : IsMetAt catalog site (stands catalog before site).knows s conflict
+      ⊎ IsAwayAt catalog site (stands catalog before site).knows s conflict
 
 -- a Commit was refused over a conflict that was met here at this entry, or there
 pub record IsConflictNamed (catalog : Catalog) (older : List Named) (n : Named) (cause : Cause) : Type 0 where
@@ -64,6 +73,7 @@ abbrev pub IsNamed : Catalog → List Named → Named → Cause → Type 0
 IsNamed catalog older n Asked = (client : ℕ) × (n.1.event ≡ Given (Call client (Ok Abort)))
 IsNamed catalog older n (Modified oid version) = IsConflictNamed catalog older n (Modified oid version)
 IsNamed catalog older n (Locked oid owner) = IsConflictNamed catalog older n (Locked oid owner)
+IsNamed catalog older n (Moving oid) = IsConflictNamed catalog older n (Moving oid)
 
 -- each abort of a run, the newest entry of which comes first, is so
 abbrev pub AreNamed : Catalog → List Named → Type 0

@@ -1,28 +1,31 @@
 -- Bytes that end within a reply are the front of a spelling.
-use Rattle.std.proofs.Common.{◌≡◌, ◌≢◌, ℕ, ◌-◌, ◌^◌, ◌<◌, List, [], ◌∷◌, ◌++◌, length, refl, sym, ap, subst, ◌∙◌, inl, inr, append_assoc, append-nil, arith}
+use Rattle.std.proofs.Common.{◌≡◌, ◌≢◌, ℕ, ◌*◌, ◌-◌, ◌^◌, ◌<◌, List, [], ◌∷◌, ◌++◌, length, refl, sym, ap, subst, ◌∙◌, inl, inr, append_assoc, append-nil, arith}
 use Rattle.std.specs.Prelude.{Some, None}
 use Rattle.std.specs.Int.{w64, cast_signed}
 use Rattle.std.proofs.Math.Facts.{sfits_to_z}
 use Rattle.std.proofs.lemmas.Int.{of_z-to_z}
 use Rattle.std.proofs.lemmas.Bool.{cases_lt}
 use Rattle.std.proofs.lemmas.List.{nil_from_length, length-append, get_or_append_left, get_or-append_right}
+use Rattle.std.proofs.lemmas.List.Elements.{All-from_recursion}
 use Rattle.walter_base.specs.declared.message.Level.{Level as HowFar}
 use Rattle.walter_base.specs.declared.message.Level.TheVariants as reached
-use Rattle.walter_base.specs.declared.message.Refusal.TheVariants.{NoTx, Gone, BadFrame, JournalFull}
+use Rattle.walter_base.specs.declared.message.Refusal.TheVariants.{NoTx, Gone, BadFrame, JournalFull, NotHolder, Busy, Behind}
 use Rattle.walter_base.specs.declared.message.Reply.{Reply}
-use Rattle.walter_base.specs.declared.message.Reply.TheVariants.{Started, Value, Count, Committed, Aborted, Deciding, Level, Ended, Unsure, Refused}
+use Rattle.walter_base.specs.declared.message.Reply.TheVariants.{Started, Value, Count, Committed, Aborted, Deciding, Level, Ended, Unsure, Token, Refused}
 use Rattle.walter_base.specs.declared.names.ObjId.{ObjId}
 use Rattle.walter_base.specs.declared.names.Tid.{Tid}
 use Rattle.walter_base.specs.declared.names.Version.{Version}
 use Rattle.walter_base.specs.declared.transaction.Cause.{Cause}
-use Rattle.walter_base.specs.declared.transaction.Cause.TheVariants.{Modified, Locked, Asked}
+use Rattle.walter_base.specs.declared.transaction.Cause.TheVariants.{Modified, Locked, Asked, Moving}
 use Rattle.walter_fields.specs.Cursors.{LacksBlock}
 use Rattle.walter_fields.specs.Spellings.{IsBytes, number_spelled, number_read, block_spelled}
 use Rattle.walter_fields.proofs.Numbers.{length-number_spelled, number_spelled-byte, number_spelled-are_bytes, number_spelled-read, number_read-lt}
 use Rattle.walter_fields.proofs.Readings.{IsBytes-behind}
 use Rattle.walter_names.specs.Names.{object_spelled, tid_spelled, version_spelled, IsObject}
-use Rattle.walter_names.proofs.Cuts.{IsCut, cut_object, cut_tid, cut_version, cut_block}
-use Rattle.walter_reply.specs.Replies.{reply_spelled, IsReply, IsKind, IsUnknown, kind, flag, cause, level, refusal, cause_number, level_number}
+use Rattle.walter_names.specs.Vectors.{numbers_spelled, told_spelled, IsWidth, IsVector}
+use Rattle.walter_names.proofs.Numbers.{length-told_spelled}
+use Rattle.walter_names.proofs.Cuts.{IsCut, cut_object, cut_tid, cut_version, cut_numbers, cut_block}
+use Rattle.walter_reply.specs.Replies.{reply_spelled, IsReply, IsKind, IsUnknown, kind, flag, width, cause, level, refusal, cause_number, level_number}
 use Rattle.walter_reply.specs.Stops.{IsFront}
 use Rattle.walter_reply.proofs.Prefixes.{IsRefusalNumber, refusal_number-known}
 
@@ -64,6 +67,24 @@ cut_level left few =
 
 pub cut_flag : (left : List ℕ) → length left < 1 → IsFront (number_spelled 1 0x81 ++ left)
 cut_flag left few = front_of 0x81 left (number_spelled 1 0) (number_spelled 1 0) (Value None) tt (some_of 1 0 (omega arith)) (ap (λ t. t ++ number_spelled 1 0) (nil_from_length left (omega (arith, few)))) refl
+
+-- a token of one number
+one_number : IsVector (0 ∷ [])
+one_number = record { wide = (omega arith, omega arith); ranges = All-from_recursion (λ n. n < 2 ^ 64) (0 ∷ []) (omega arith, tt) }
+
+pub cut_width : (left : List ℕ) → length left < 1 → IsFront (number_spelled 1 0x8B ++ left)
+cut_width left few =
+    front_of 0x8B left (told_spelled (0 ∷ [])) (told_spelled (0 ∷ [])) (Token (0 ∷ [])) one_number (λ e. omega (arith, ap length e, length-told_spelled (0 ∷ [])))
+    (ap (λ t. t ++ told_spelled (0 ∷ [])) (nil_from_length left (omega (arith, few)))) refl
+
+pub cut_token : (left mid : List ℕ) (wide : ℕ) → IsWidth wide → left ≡ number_spelled 1 wide ++ mid → length mid < 8 * wide → IsBytes (number_spelled 1 0x8B ++ left) → IsFront (number_spelled 1 0x8B ++ left)
+cut_token left mid wide is_width is few bytes =
+    let mid_bytes = IsBytes-behind (number_spelled 1 wide) mid (subst IsBytes is (IsBytes-behind (number_spelled 1 0x8B) left bytes)) in
+    let cut = cut_numbers wide mid mid_bytes few in
+    let count : wide ≡ length cut.value = sym cut.ranges.0 in
+    front_of 0x8B left cut.more (told_spelled cut.value) (Token cut.value) (record { wide = subst IsWidth count is_width; ranges = cut.ranges.1 }) cut.some
+    (ap (λ t. t ++ cut.more) is ∙ append_assoc (number_spelled 1 wide) mid cut.more ∙ ap (λ t. number_spelled 1 wide ++ t) cut.spells
+    ∙ ap (λ n. number_spelled 1 n ++ numbers_spelled cut.value) count) refl
 
 pub cut_cause : (left : List ℕ) → length left < 1 → IsFront (number_spelled 1 0x86 ++ left)
 cut_cause left few =
@@ -133,6 +154,26 @@ cut_locked_owner left mid rest oid fits is behind few bytes =
     front_of_two 0x86 2 left mid cut.more (object_spelled oid ++ tid_spelled cut.value) (Aborted (Locked oid cut.value)) (fits, cut.ranges) cut.some is
     (second_cut mid rest cut.more (object_spelled oid) (tid_spelled cut.value) behind cut.spells) refl
 
+pub cut_moving : (left mid : List ℕ) → left ≡ number_spelled 1 4 ++ mid → length mid < 12 → IsBytes (number_spelled 1 0x86 ++ left) → IsFront (number_spelled 1 0x86 ++ left)
+cut_moving left mid is few bytes =
+    let cut = cut_object mid (bytes_behind_two 0x86 4 left mid is bytes) few in
+    front_of_two 0x86 4 left mid cut.more (object_spelled cut.value) (Aborted (Moving cut.value)) cut.ranges cut.some is cut.spells refl
+
+pub cut_busy_object : (left mid : List ℕ) → left ≡ number_spelled 1 17 ++ mid → length mid < 12 → IsBytes (number_spelled 1 0xE0 ++ left) → IsFront (number_spelled 1 0xE0 ++ left)
+cut_busy_object left mid is few bytes =
+    let cut = cut_object mid (bytes_behind_two 0xE0 17 left mid is bytes) few in
+    let owner = tid_spelled no_tid in
+    front_of_two 0xE0 17 left mid (cut.more ++ owner) (object_spelled cut.value ++ owner) (Refused (Busy cut.value no_tid)) (cut.ranges, (omega arith, omega arith, omega arith)) (some_front cut.more owner cut.some) is
+    (first_cut mid cut.more (object_spelled cut.value) owner cut.spells) refl
+
+pub cut_busy_owner : (left mid rest : List ℕ) (oid : ObjId) → IsObject oid → left ≡ number_spelled 1 17 ++ mid → mid ≡ object_spelled oid ++ rest → length rest < 13 → IsBytes (number_spelled 1 0xE0 ++ left)
+    → IsFront (number_spelled 1 0xE0 ++ left)
+cut_busy_owner left mid rest oid fits is behind few bytes =
+    let rest_bytes = IsBytes-behind (object_spelled oid) rest (subst IsBytes behind (bytes_behind_two 0xE0 17 left mid is bytes)) in
+    let cut = cut_tid rest rest_bytes few in
+    front_of_two 0xE0 17 left mid cut.more (object_spelled oid ++ tid_spelled cut.value) (Refused (Busy oid cut.value)) (fits, cut.ranges) cut.some is
+    (second_cut mid rest cut.more (object_spelled oid) (tid_spelled cut.value) behind cut.spells) refl
+
 -- a number of k bytes
 abbrev pub IsNumber : ℕ → ℕ → Type 0
 IsNumber k n = n < 256 ^ k
@@ -169,6 +210,26 @@ cut_place left mid is few bytes =
     let cut = cut_number 4 mid (bytes_behind_two 0xE0 8 left mid is bytes) few in
     front_of_two 0xE0 8 left mid cut.more (number_spelled 4 cut.value) (Refused (BadFrame cut.value)) (omega (arith, cut.ranges)) cut.some is cut.spells refl
 
+pub cut_holder : (left mid : List ℕ) → left ≡ number_spelled 1 16 ++ mid → length mid < 1 → IsBytes (number_spelled 1 0xE0 ++ left) → IsFront (number_spelled 1 0xE0 ++ left)
+cut_holder left mid is few bytes =
+    let cut = cut_number 1 mid (bytes_behind_two 0xE0 16 left mid is bytes) few in
+    front_of_two 0xE0 16 left mid cut.more (number_spelled 1 cut.value) (Refused (NotHolder (record { 0 = cut.value }))) (omega (arith, cut.ranges)) cut.some is cut.spells refl
+
+pub cut_behind_site : (left mid : List ℕ) → left ≡ number_spelled 1 19 ++ mid → length mid < 1 → IsBytes (number_spelled 1 0xE0 ++ left) → IsFront (number_spelled 1 0xE0 ++ left)
+cut_behind_site left mid is few bytes =
+    let cut = cut_number 1 mid (bytes_behind_two 0xE0 19 left mid is bytes) few in
+    let none = number_spelled 8 0 in
+    front_of_two 0xE0 19 left mid (cut.more ++ none) (number_spelled 1 cut.value ++ none) (Refused (Behind (record { 0 = cut.value }) 0)) (omega (arith, cut.ranges), omega arith) (some_front cut.more none cut.some) is
+    (first_cut mid cut.more (number_spelled 1 cut.value) none cut.spells) refl
+
+pub cut_behind_have : (left mid rest : List ℕ) (site : ℕ) → site < 2 ^ 8 → left ≡ number_spelled 1 19 ++ mid → mid ≡ number_spelled 1 site ++ rest → length rest < 8 → IsBytes (number_spelled 1 0xE0 ++ left)
+    → IsFront (number_spelled 1 0xE0 ++ left)
+cut_behind_have left mid rest site fits is behind few bytes =
+    let rest_bytes = IsBytes-behind (number_spelled 1 site) rest (subst IsBytes behind (bytes_behind_two 0xE0 19 left mid is bytes)) in
+    let cut = cut_number 8 rest rest_bytes few in
+    front_of_two 0xE0 19 left mid cut.more (number_spelled 1 site ++ number_spelled 8 cut.value) (Refused (Behind (record { 0 = site }) cut.value)) (fits, omega (arith, cut.ranges)) cut.some is
+    (second_cut mid rest cut.more (number_spelled 1 site) (number_spelled 8 cut.value) behind cut.spells) refl
+
 pub cut_gone : (left mid : List ℕ) → left ≡ number_spelled 1 7 ++ mid → length mid < 13 → IsBytes (number_spelled 1 0xE0 ++ left) → IsFront (number_spelled 1 0xE0 ++ left)
 cut_gone left mid is few bytes =
     let cut = cut_tid mid (bytes_behind_two 0xE0 7 left mid is bytes) few in
@@ -201,13 +262,17 @@ second_byte k n left mid low_k low_n is = ap (λ t. t ++ left) (number_spelled-b
 pub unknown_flag : (n : ℕ) (left mid : List ℕ) → n < 256 → n ≢ 0 → n ≢ 1 → left ≡ number_spelled 1 n ++ mid → IsUnknown (number_spelled 1 0x81 ++ left) 1
 unknown_flag n left mid low not_0 not_1 is = record { front = 0x81 ∷ []; byte = n; rest = mid; is = second_byte 0x81 n left mid (omega arith) low is; place = refl; nothing = flag refl not_0 not_1 }
 
-pub unknown_cause : (n : ℕ) (left mid : List ℕ) → n < 256 → n ≢ 1 → n ≢ 2 → n ≢ 3 → left ≡ number_spelled 1 n ++ mid → IsUnknown (number_spelled 1 0x86 ++ left) 1
-unknown_cause n left mid low not_1 not_2 not_3 is = record { front = 0x86 ∷ []; byte = n; rest = mid; is = second_byte 0x86 n left mid (omega arith) low is; place = refl; nothing = cause refl none }
+pub unknown_width : (n : ℕ) (left mid : List ℕ) → n < 256 → ¬ IsWidth n → left ≡ number_spelled 1 n ++ mid → IsUnknown (number_spelled 1 0x8B ++ left) 1
+unknown_width n left mid low none is = record { front = 0x8B ∷ []; byte = n; rest = mid; is = second_byte 0x8B n left mid (omega arith) low is; place = refl; nothing = width refl none }
+
+pub unknown_cause : (n : ℕ) (left mid : List ℕ) → n < 256 → n ≢ 1 → n ≢ 2 → n ≢ 3 → n ≢ 4 → left ≡ number_spelled 1 n ++ mid → IsUnknown (number_spelled 1 0x86 ++ left) 1
+unknown_cause n left mid low not_1 not_2 not_3 not_4 is = record { front = 0x86 ∷ []; byte = n; rest = mid; is = second_byte 0x86 n left mid (omega arith) low is; place = refl; nothing = cause refl none }
   where
     none : (why : Cause) → n ≢ cause_number why
     none (Modified oid version) = not_1
     none (Locked oid owner) = not_2
     none Asked = not_3
+    none (Moving oid) = not_4
 
 pub unknown_level : (n : ℕ) (left mid : List ℕ) → n < 256 → n ≢ 0 → n ≢ 1 → n ≢ 2 → n ≢ 3 → n ≢ 4 → n ≢ 5 → left ≡ number_spelled 1 n ++ mid → IsUnknown (number_spelled 1 0x88 ++ left) 1
 unknown_level n left mid low not_0 not_1 not_2 not_3 not_4 not_5 is = record { front = 0x88 ∷ []; byte = n; rest = mid; is = second_byte 0x88 n left mid (omega arith) low is; place = refl; nothing = level refl none }

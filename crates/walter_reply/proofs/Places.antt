@@ -5,18 +5,19 @@ use Rattle.std.proofs.lemmas.List.{length-append}
 use Rattle.walter_base.specs.declared.message.Level.{Level as HowFar}
 use Rattle.walter_base.specs.declared.message.Refusal.{Refusal}
 use Rattle.walter_base.specs.declared.message.Reply.{Reply}
-use Rattle.walter_base.specs.declared.message.Reply.TheVariants.{Started, Value, Done, Set, Count, Committed, Aborted, Deciding, Level, Ended, Unsure, Refused}
+use Rattle.walter_base.specs.declared.message.Reply.TheVariants.{Started, Value, Done, Set, Count, Committed, Aborted, Deciding, Level, Ended, Unsure, Token, Refused}
 use Rattle.walter_base.specs.declared.transaction.Cause.{Cause}
 use Rattle.walter_fields.specs.Cursors.{Remainder, Takes, whole_of}
 use Rattle.walter_fields.specs.Spellings.{IsBytes, number_spelled, block_spelled}
 use Rattle.walter_fields.proofs.Longest.{IsLongest, one_longest}
 use Rattle.walter_fields.proofs.Numbers.{number_spelled-byte}
 use Rattle.walter_fields.proofs.Readings.{left_of_whole}
-use Rattle.walter_reply.specs.Replies.{reply_spelled, cause_number, cause_fields, level_number, refusal_number, refusal_fields, IsReply, Spells, IsKind, StandsForNothing, IsBadFrame, kind, flag, cause, level, refusal, IsBadSet, empty, unknown, set, short, behind}
+use Rattle.walter_names.specs.Vectors.{numbers_spelled, IsWidth}
+use Rattle.walter_reply.specs.Replies.{reply_spelled, cause_number, cause_fields, level_number, refusal_number, refusal_fields, IsReply, Spells, IsKind, StandsForNothing, IsBadFrame, kind, flag, width, cause, level, refusal, IsBadSet, empty, unknown, set, short, behind}
 use Rattle.walter_reply.specs.Sets.{IsBadCounts}
 use Rattle.walter_reply.proofs.Sets.{no_bad_counts, cut_counts, one_bad_counts}
 use Rattle.walter_reply.specs.Stops.{IsFront}
-use Rattle.walter_reply.proofs.Fronts.{cut_kind, cut_flag, cut_cause, cut_level, cut_refusal}
+use Rattle.walter_reply.proofs.Fronts.{cut_kind, cut_flag, cut_width, cut_cause, cut_level, cut_refusal}
 use Rattle.walter_reply.proofs.Prefixes.{kind_of, fields_spelled, first_byte, cause_number-lt, level_number-lt, refusal_number-lt, whole_spelling, not_empty, nothing_behind}
 
 -- ---- a decoder's places are those of bad frames
@@ -49,9 +50,10 @@ known_kind (Deciding tid) = inl (omega arith, omega arith)
 known_kind (Level how_far) = inl (omega arith, omega arith)
 known_kind Ended = inl (omega arith, omega arith)
 known_kind (Unsure tid) = inl (omega arith, omega arith)
+known_kind (Token token) = inl (omega arith, omega arith)
 known_kind (Refused why) = inr refl
 
--- what stands behind the first byte of a value, of an abort, of a level and of a refusal
+-- what stands behind the first byte of a value, of a token, of an abort, of a level and of a refusal
 known_flag : (reply : Reply) (byte : ℕ) (rest y : List ℕ) → 0x81 ≡ kind_of reply → byte ∷ rest ≡ fields_spelled reply ++ y → byte ≢ 0 → byte ≢ 1 → ⊥
 known_flag (Value None) byte rest y same e not_0 not_1 =
     let begins : byte ∷ rest ≡ 0 ∷ y = e ∙ ap (λ t. t ++ y) (number_spelled-byte 0 (omega arith)) in
@@ -65,6 +67,12 @@ begins_with : (n byte : ℕ) (fields rest y : List ℕ) → n < 256 → byte ∷
 begins_with n byte fields rest y low e =
     let begins : byte ∷ rest ≡ n ∷ (fields ++ y) = e ∙ append_assoc (number_spelled 1 n) fields y ∙ ap (λ t. t ++ (fields ++ y)) (number_spelled-byte n low) in
     cc
+
+known_width : (reply : Reply) (byte : ℕ) (rest y : List ℕ) → 0x8B ≡ kind_of reply → IsReply reply → byte ∷ rest ≡ fields_spelled reply ++ y → IsWidth byte
+known_width (Token token) byte rest y same fits e =
+    let few = fits.wide.1 in
+    subst IsWidth (sym (begins_with (length token) byte (numbers_spelled token) rest y (omega (arith, few)) e)) fits.wide
+known_width _ byte rest y same fits e = absurd (omega (arith, same))
 
 known_cause : (reply : Reply) (byte : ℕ) (rest y : List ℕ) → 0x86 ≡ kind_of reply → byte ∷ rest ≡ fields_spelled reply ++ y → ((why : Cause) → byte ≢ cause_number why) → ⊥
 known_cause (Aborted why) byte rest y same e none = none why (begins_with (cause_number why) byte (cause_fields why) rest y (cause_number-lt why) e)
@@ -88,6 +96,9 @@ no_unknown front rest byte reply spells (kind is not) =
 no_unknown front rest byte reply spells (flag is not_0 not_1) =
     let begins : 0x81 ∷ (byte ∷ rest) ≡ kind_of reply ∷ (fields_spelled reply ++ []) = ap (λ t. t ++ (byte ∷ rest)) (sym is) ∙ whole_spelling (front ++ (byte ∷ rest)) reply spells in
     known_flag reply byte rest [] (cc) (cc) not_0 not_1
+no_unknown front rest byte reply spells (width is none) =
+    let begins : 0x8B ∷ (byte ∷ rest) ≡ kind_of reply ∷ (fields_spelled reply ++ []) = ap (λ t. t ++ (byte ∷ rest)) (sym is) ∙ whole_spelling (front ++ (byte ∷ rest)) reply spells in
+    none (known_width reply byte rest [] (cc) spells.ranges (cc))
 no_unknown front rest byte reply spells (cause is none) =
     let begins : 0x86 ∷ (byte ∷ rest) ≡ kind_of reply ∷ (fields_spelled reply ++ []) = ap (λ t. t ++ (byte ∷ rest)) (sym is) ∙ whole_spelling (front ++ (byte ∷ rest)) reply spells in
     known_cause reply byte rest [] (cc) (cc) none
@@ -129,6 +140,7 @@ alone k low = append-nil (number_spelled 1 k) ∙ number_spelled-byte k low
 reaches : (front : List ℕ) (byte : ℕ) → StandsForNothing front byte → IsFront front
 reaches front byte (kind is not) = rw is (cut_kind [] (omega arith))
 reaches front byte (flag is not_0 not_1) = subst IsFront (alone 0x81 (omega arith) ∙ sym is) (cut_flag [] (omega arith))
+reaches front byte (width is none) = subst IsFront (alone 0x8B (omega arith) ∙ sym is) (cut_width [] (omega arith))
 reaches front byte (cause is none) = subst IsFront (alone 0x86 (omega arith) ∙ sym is) (cut_cause [] (omega arith))
 reaches front byte (level is none) = subst IsFront (alone 0x88 (omega arith) ∙ sym is) (cut_level [] (omega arith))
 reaches front byte (refusal is none) = subst IsFront (alone 0xE0 (omega arith) ∙ sym is) (cut_refusal [] (omega arith))
@@ -189,6 +201,7 @@ not_unknown front rest fields byte (kind is not) e =
     let begins : byte ∷ rest ≡ 0x83 ∷ fields = ap (λ t. t ++ (byte ∷ rest)) (sym is) ∙ e in
     not (subst IsKind (cc) (known_kind (Set [])))
 not_unknown front rest fields byte (flag is not_0 not_1) e = other_front 0x81 front (byte ∷ rest) fields (λ same. omega (arith, same)) is e
+not_unknown front rest fields byte (width is none) e = other_front 0x8B front (byte ∷ rest) fields (λ same. omega (arith, same)) is e
 not_unknown front rest fields byte (cause is none) e = other_front 0x86 front (byte ∷ rest) fields (λ same. omega (arith, same)) is e
 not_unknown front rest fields byte (level is none) e = other_front 0x88 front (byte ∷ rest) fields (λ same. omega (arith, same)) is e
 not_unknown front rest fields byte (refusal is none) e = other_front 0xE0 front (byte ∷ rest) fields (λ same. omega (arith, same)) is e

@@ -4,15 +4,17 @@ use Rattle.std.specs.Prelude.{Some, None}
 use Rattle.walter_base.specs.declared.message.Level.{Level as HowFar}
 use Rattle.walter_base.specs.declared.message.Level.TheVariants as reached
 use Rattle.walter_base.specs.declared.message.Refusal.{Refusal}
-use Rattle.walter_base.specs.declared.message.Refusal.TheVariants.{UnknownContainer, WrongKind, TxFull, TooLong, NoTx, TxOpen, Gone, BadFrame, Down, JournalFull, SetTooWide, SessionsFull, Memory, WrongSite, NotIssued}
+use Rattle.walter_base.specs.declared.message.Refusal.TheVariants.{UnknownContainer, WrongKind, TxFull, TooLong, NoTx, TxOpen, Gone, BadFrame, Down, JournalFull, SetTooWide, SessionsFull, Memory, WrongSite, NotIssued, NotHolder, Busy, BadTarget, Behind, BadVector, Reserved, SamePerson, NoFriends}
 use Rattle.walter_base.specs.declared.message.Reply.{Reply}
-use Rattle.walter_base.specs.declared.message.Reply.TheVariants.{Started, Value, Done, Set, Count, Committed, Aborted, Deciding, Level, Ended, Unsure, Refused}
+use Rattle.walter_base.specs.declared.message.Reply.TheVariants.{Started, Value, Done, Set, Count, Committed, Aborted, Deciding, Level, Ended, Unsure, Token, Refused}
 use Rattle.walter_base.specs.declared.transaction.Cause.{Cause}
-use Rattle.walter_base.specs.declared.transaction.Cause.TheVariants.{Modified, Locked, Asked}
+use Rattle.walter_base.specs.declared.transaction.Cause.TheVariants.{Modified, Locked, Asked, Moving}
 use Rattle.walter_fields.specs.Spellings.{number_spelled, signed_spelled, block_spelled}
 use Rattle.walter_fields.proofs.Numbers.{number_spelled-byte, same_number}
 use Rattle.walter_fields.proofs.Readings.{same_block, same_signed}
 use Rattle.walter_names.specs.Names.{object_spelled, tid_spelled, version_spelled}
+use Rattle.walter_names.specs.Vectors.{told_spelled}
+use Rattle.walter_names.proofs.Numbers.{same_told}
 use Rattle.walter_names.proofs.Prefixes.{regrouped, same_object, same_tid, same_version}
 use Rattle.walter_reply.specs.Sets.{counts_spelled}
 use Rattle.walter_reply.proofs.Sets.{same_counts}
@@ -31,6 +33,7 @@ kind_of (Deciding tid) = 0x87
 kind_of (Level level) = 0x88
 kind_of Ended = 0x89
 kind_of (Unsure tid) = 0x8A
+kind_of (Token token) = 0x8B
 kind_of (Refused why) = 0xE0
 
 abbrev pub fields_spelled : Reply → List ℕ
@@ -46,6 +49,7 @@ fields_spelled (Deciding tid) = tid_spelled tid
 fields_spelled (Level level) = number_spelled 1 (level_number level)
 fields_spelled Ended = []
 fields_spelled (Unsure tid) = tid_spelled tid
+fields_spelled (Token token) = told_spelled token
 fields_spelled (Refused why) = refusal_spelled why
 
 pub reply_parts : (a : Reply) (x : List ℕ) → reply_spelled a ++ x ≡ number_spelled 1 (kind_of a) ++ (fields_spelled a ++ x)
@@ -61,6 +65,7 @@ reply_parts (Deciding tid) x = append_assoc (number_spelled 1 0x87) (tid_spelled
 reply_parts (Level level) x = append_assoc (number_spelled 1 0x88) (number_spelled 1 (level_number level)) x
 reply_parts Ended x = refl
 reply_parts (Unsure tid) x = append_assoc (number_spelled 1 0x8A) (tid_spelled tid) x
+reply_parts (Token token) x = append_assoc (number_spelled 1 0x8B) (told_spelled token) x
 reply_parts (Refused why) x = append_assoc (number_spelled 1 0xE0) (refusal_spelled why) x
 
 pub kind_of-lt : (a : Reply) → kind_of a < 256
@@ -75,12 +80,14 @@ kind_of-lt (Deciding tid) = omega arith
 kind_of-lt (Level level) = omega arith
 kind_of-lt Ended = omega arith
 kind_of-lt (Unsure tid) = omega arith
+kind_of-lt (Token token) = omega arith
 kind_of-lt (Refused why) = omega arith
 
 pub cause_number-lt : (why : Cause) → cause_number why < 256
 cause_number-lt (Modified oid version) = omega arith
 cause_number-lt (Locked oid owner) = omega arith
 cause_number-lt Asked = omega arith
+cause_number-lt (Moving oid) = omega arith
 
 pub level_number-lt : (level : HowFar) → level_number level < 256
 level_number-lt reached.NotCommitted = omega arith
@@ -90,10 +97,10 @@ level_number-lt reached.Committed = omega arith
 level_number-lt reached.Durable = omega arith
 level_number-lt reached.Visible = omega arith
 
--- the numbers of refusals are those from 1 to 15
+-- the numbers of refusals are those from 1 to 23
 pub record IsRefusalNumber (n : ℕ) : Type 0 where
   pub some : 1 ≤ n
-  pub most : n ≤ 15
+  pub most : n ≤ 23
 
 pub refusal_number-known : (why : Refusal) → IsRefusalNumber (refusal_number why)
 refusal_number-known UnknownContainer = record { some = omega arith; most = omega arith }
@@ -111,6 +118,14 @@ refusal_number-known SessionsFull = record { some = omega arith; most = omega ar
 refusal_number-known Memory = record { some = omega arith; most = omega arith }
 refusal_number-known WrongSite = record { some = omega arith; most = omega arith }
 refusal_number-known NotIssued = record { some = omega arith; most = omega arith }
+refusal_number-known (NotHolder site) = record { some = omega arith; most = omega arith }
+refusal_number-known (Busy oid owner) = record { some = omega arith; most = omega arith }
+refusal_number-known BadTarget = record { some = omega arith; most = omega arith }
+refusal_number-known (Behind site have) = record { some = omega arith; most = omega arith }
+refusal_number-known BadVector = record { some = omega arith; most = omega arith }
+refusal_number-known Reserved = record { some = omega arith; most = omega arith }
+refusal_number-known SamePerson = record { some = omega arith; most = omega arith }
+refusal_number-known NoFriends = record { some = omega arith; most = omega arith }
 
 pub refusal_number-lt : (why : Refusal) → refusal_number why < 256
 refusal_number-lt why = omega (arith, (refusal_number-known why).most)
@@ -125,6 +140,7 @@ same_cause (Locked a v) (Locked b w) x y same fits_a fits_b e =
     let two = same_tid v w x y fits_a.1 fits_b.1 one.1 in
     ((λ i. Locked (one.0 i) (two.0 i)), two.1)
 same_cause Asked Asked x y same fits_a fits_b e = (refl, e)
+same_cause (Moving a) (Moving b) x y same fits_a fits_b e = let parts = same_object a b x y fits_a fits_b e in ((λ i. Moving (parts.0 i)), parts.1)
 same_cause _ _ x y same fits_a fits_b e = absurd (omega (arith, same))
 
 same_level : (a b : HowFar) → level_number a ≡ level_number b → a ≡ b
@@ -155,6 +171,21 @@ same_refusal SessionsFull SessionsFull x y same fits_a fits_b e = (refl, e)
 same_refusal Memory Memory x y same fits_a fits_b e = (refl, e)
 same_refusal WrongSite WrongSite x y same fits_a fits_b e = (refl, e)
 same_refusal NotIssued NotIssued x y same fits_a fits_b e = (refl, e)
+same_refusal (NotHolder a) (NotHolder b) x y same fits_a fits_b e =
+    let parts = same_number 1 a.0 b.0 x y (omega (arith, fits_a)) (omega (arith, fits_b)) e in ((λ i. NotHolder (record { 0 = parts.0 i })), parts.1)
+same_refusal (Busy a v) (Busy b w) x y same fits_a fits_b e =
+    let one = same_object a b (tid_spelled v ++ x) (tid_spelled w ++ y) fits_a.0 fits_b.0 (regrouped (object_spelled a) (tid_spelled v) x (object_spelled b) (tid_spelled w) y e) in
+    let two = same_tid v w x y fits_a.1 fits_b.1 one.1 in
+    ((λ i. Busy (one.0 i) (two.0 i)), two.1)
+same_refusal BadTarget BadTarget x y same fits_a fits_b e = (refl, e)
+same_refusal (Behind a m) (Behind b n) x y same fits_a fits_b e =
+    let one = same_number 1 a.0 b.0 (number_spelled 8 m ++ x) (number_spelled 8 n ++ y) (omega (arith, fits_a.0)) (omega (arith, fits_b.0)) (regrouped (number_spelled 1 a.0) (number_spelled 8 m) x (number_spelled 1 b.0) (number_spelled 8 n) y e) in
+    let two = same_number 8 m n x y (omega (arith, fits_a.1)) (omega (arith, fits_b.1)) one.1 in
+    ((λ i. Behind (record { 0 = one.0 i }) (two.0 i)), two.1)
+same_refusal BadVector BadVector x y same fits_a fits_b e = (refl, e)
+same_refusal Reserved Reserved x y same fits_a fits_b e = (refl, e)
+same_refusal SamePerson SamePerson x y same fits_a fits_b e = (refl, e)
+same_refusal NoFriends NoFriends x y same fits_a fits_b e = (refl, e)
 same_refusal _ _ x y same fits_a fits_b e = absurd (omega (arith, same))
 
 -- a value that is there, behind its flag
@@ -186,6 +217,7 @@ same_fields (Level a) (Level b) x y same fits_a fits_b e =
 same_fields Ended Ended x y same fits_a fits_b e = (refl, e)
 same_fields (Deciding a) (Deciding b) x y same fits_a fits_b e = let parts = same_tid a b x y fits_a fits_b e in ((λ i. Deciding (parts.0 i)), parts.1)
 same_fields (Unsure a) (Unsure b) x y same fits_a fits_b e = let parts = same_tid a b x y fits_a fits_b e in ((λ i. Unsure (parts.0 i)), parts.1)
+same_fields (Token v) (Token w) x y same fits_a fits_b e = let parts = same_told v w x y fits_a fits_b e in ((λ i. Token (parts.0 i)), parts.1)
 same_fields (Refused a) (Refused b) x y same fits_a fits_b e =
     let numbers = same_number 1 (refusal_number a) (refusal_number b) (refusal_fields a ++ x) (refusal_fields b ++ y) (omega (arith, refusal_number-lt a)) (omega (arith, refusal_number-lt b))
     (regrouped (number_spelled 1 (refusal_number a)) (refusal_fields a) x (number_spelled 1 (refusal_number b)) (refusal_fields b) y e) in

@@ -8,9 +8,9 @@ ghost use Rattle.walter_reply.specs.Stops.{EndsWith, StopsBehind, StopsAt};
 
 use crate::fault::{ReplyFault, Stop};
 use std::alloc::Global;
-use walter_base::{Cause, Counts, Level, Refusal, Reply, SharedBytes};
+use walter_base::{Cause, Counts, Level, Refusal, Reply, SharedBytes, SiteId, Snapshot};
 use walter_fields::Cursor;
-use walter_names::{read_object, read_tid, read_version};
+use walter_names::{read_numbers, read_object, read_tid, read_version};
 
 /// What stands behind the first byte of Started.
 fn read_started(cursor: &mut Cursor) -> Result<Reply, Stop>
@@ -149,6 +149,10 @@ fn read_aborted(cursor: &mut Cursor) -> Result<Reply, Stop>
             Ok(Reply::Aborted(Cause::Locked { oid, owner }))
         }
         3 => Ok(Reply::Aborted(Cause::Asked)),
+        4 => {
+            let oid = read_object(cursor)?;
+            Ok(Reply::Aborted(Cause::Moving { oid }))
+        }
         _ => Err(Stop::Unknown(1)),
     }
 }
@@ -185,6 +189,24 @@ fn read_unsure(cursor: &mut Cursor) -> Result<Reply, Stop>
     Ok(Reply::Unsure(read_tid(cursor)?))
 }
 
+/// The fewest and the most numbers that a token may have.
+const NARROWEST: u8 = 1;
+
+const WIDEST: u8 = 16;
+
+/// What stands behind the first byte of Token.
+fn read_token(alloc: Global, cursor: &mut Cursor) -> Result<Reply, Stop>
+    ensures ends { IfOk result (EndsWith 0x8B cursor.old cursor.new) }
+    ensures stop { IfErr result (StopsBehind 0x8B cursor.old.left) }
+{
+    let width = cursor.u8()?;
+    if width < NARROWEST || width > WIDEST {
+        return Err(Stop::Unknown(1));
+    }
+    let token = read_numbers(cursor, width)?;
+    Ok(Reply::Token(Snapshot::new(alloc, token)?))
+}
+
 /// What stands behind the first byte of Refused.
 fn read_refused(cursor: &mut Cursor) -> Result<Reply, Stop>
     ensures ends { IfOk result (EndsWith 0xE0 cursor.old cursor.new) }
@@ -216,6 +238,28 @@ fn read_refused(cursor: &mut Cursor) -> Result<Reply, Stop>
         13 => Ok(Reply::Refused(Refusal::Memory)),
         14 => Ok(Reply::Refused(Refusal::WrongSite)),
         15 => Ok(Reply::Refused(Refusal::NotIssued)),
+        16 => {
+            let site = cursor.u8()?;
+            Ok(Reply::Refused(Refusal::NotHolder { site: SiteId(site) }))
+        }
+        17 => {
+            let oid = read_object(cursor)?;
+            let owner = read_tid(cursor)?;
+            Ok(Reply::Refused(Refusal::Busy { oid, owner }))
+        }
+        18 => Ok(Reply::Refused(Refusal::BadTarget)),
+        19 => {
+            let site = cursor.u8()?;
+            let have = cursor.u64()?;
+            Ok(Reply::Refused(Refusal::Behind {
+                site: SiteId(site),
+                have,
+            }))
+        }
+        20 => Ok(Reply::Refused(Refusal::BadVector)),
+        21 => Ok(Reply::Refused(Refusal::Reserved)),
+        22 => Ok(Reply::Refused(Refusal::SamePerson)),
+        23 => Ok(Reply::Refused(Refusal::NoFriends)),
         _ => Err(Stop::Unknown(1)),
     }
 }
@@ -237,6 +281,7 @@ fn read_fields(alloc: Global, cursor: &mut Cursor, kind: u8) -> Result<Reply, St
         0x88 => read_level(cursor),
         0x89 => Ok(Reply::Ended),
         0x8A => read_unsure(cursor),
+        0x8B => read_token(alloc, cursor),
         0xE0 => read_refused(cursor),
         _ => Err(Stop::Unknown(0)),
     }

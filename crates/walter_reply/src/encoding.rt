@@ -6,7 +6,7 @@ ghost use Rattle.walter_reply.specs.Sets.{entry_spelled, counts_spelled};
 use std::alloc::Global;
 use walter_base::{Bytes, Cause, Level, Mem, NoMemory, Refusal, Reply};
 use walter_fields::Appender;
-use walter_names::{write_object, write_tid, write_version};
+use walter_names::{write_object, write_tid, write_told, write_version};
 
 fn number_of_cause(cause: Cause) -> u8
     ensures { result ≡ cause_number cause }
@@ -15,6 +15,7 @@ fn number_of_cause(cause: Cause) -> u8
         Cause::Modified { oid: _, version: _ } => 1,
         Cause::Locked { oid: _, owner: _ } => 2,
         Cause::Asked => 3,
+        Cause::Moving { oid: _ } => 4,
     }
 }
 
@@ -50,6 +51,14 @@ fn number_of_refusal(refusal: Refusal) -> u8
         Refusal::Memory => 13,
         Refusal::WrongSite => 14,
         Refusal::NotIssued => 15,
+        Refusal::NotHolder { site: _ } => 16,
+        Refusal::Busy { oid: _, owner: _ } => 17,
+        Refusal::BadTarget => 18,
+        Refusal::Behind { site: _, have: _ } => 19,
+        Refusal::BadVector => 20,
+        Refusal::Reserved => 21,
+        Refusal::SamePerson => 22,
+        Refusal::NoFriends => 23,
     }
 }
 
@@ -71,6 +80,7 @@ fn append_cause(out: &mut Appender, cause: Cause)
             write_tid(out, owner);
         }
         Cause::Asked => {}
+        Cause::Moving { oid } => write_object(out, oid),
     }
 }
 
@@ -88,6 +98,15 @@ fn append_refusal(out: &mut Appender, refusal: Refusal)
         Refusal::JournalFull { need, left } => {
             out.u64(need);
             out.u64(left);
+        }
+        Refusal::NotHolder { site } => out.u8(site.0),
+        Refusal::Busy { oid, owner } => {
+            write_object(out, oid);
+            write_tid(out, owner);
+        }
+        Refusal::Behind { site, have } => {
+            out.u8(site.0);
+            out.u64(have);
         }
         _ => {}
     }
@@ -130,12 +149,17 @@ pub fn size_of(reply: &Reply) -> usize
         Reply::Done | Reply::Ended => 1,
         Reply::Set(counts) => 5 + 16 * counts.as_slice().len(),
         Reply::Count(_) => 9,
+        Reply::Token(token) => 2 + 8 * token.vector().as_slice().len(),
         Reply::Committed(_) => 10,
         Reply::Aborted(Cause::Modified { oid: _, version: _ }) => 23,
         Reply::Aborted(Cause::Locked { oid: _, owner: _ }) => 27,
+        Reply::Aborted(Cause::Moving { oid: _ }) => 14,
         Reply::Refused(Refusal::Gone { tid: _ }) => 15,
         Reply::Refused(Refusal::BadFrame { at: _ }) => 6,
         Reply::Refused(Refusal::JournalFull { need: _, left: _ }) => 18,
+        Reply::Refused(Refusal::NotHolder { site: _ }) => 3,
+        Reply::Refused(Refusal::Busy { oid: _, owner: _ }) => 27,
+        Reply::Refused(Refusal::Behind { site: _, have: _ }) => 11,
         Reply::Refused(_) => 2,
     }
 }
@@ -191,6 +215,10 @@ pub fn append(out: &mut Appender, reply: &Reply)
         Reply::Unsure(tid) => {
             out.u8(0x8A);
             write_tid(out, *tid);
+        }
+        Reply::Token(token) => {
+            out.u8(0x8B);
+            write_told(out, token.as_slice());
         }
         Reply::Refused(refusal) => {
             out.u8(0xE0);

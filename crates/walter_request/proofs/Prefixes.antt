@@ -1,12 +1,14 @@
 -- No spelling of a request begins that of another.
 use Rattle.std.proofs.Common.{◌≡◌, ◌≢◌, ◌∷◌, ap, append-nil, ℕ, ◌<◌, List, [], ◌++◌, refl, sym, ◌∙◌, append_assoc, arith}
 use Rattle.walter_base.specs.declared.message.Request.{Request}
-use Rattle.walter_base.specs.declared.message.Request.TheVariants.{Start, Read, Write, SetAdd, SetDel, SetRead, SetReadId, Commit, Abort, Level}
+use Rattle.walter_base.specs.declared.message.Request.TheVariants.{Start, Read, Write, SetAdd, SetDel, SetRead, SetReadId, Commit, Abort, Level, Handover, StartAt, Token, Befriend, Unfriend}
 use Rattle.walter_fields.specs.Spellings.{number_spelled, block_spelled}
 use Rattle.walter_fields.proofs.Numbers.{number_spelled-byte, same_number}
 use Rattle.walter_fields.proofs.Readings.{same_block}
-use Rattle.walter_names.specs.Names.{object_spelled, tid_spelled, member_spelled}
-use Rattle.walter_names.proofs.Prefixes.{regrouped, same_object, same_tid, same_member}
+use Rattle.walter_names.specs.Names.{object_spelled, tid_spelled, member_spelled, move_spelled, persons_spelled}
+use Rattle.walter_names.specs.Vectors.{told_spelled}
+use Rattle.walter_names.proofs.Prefixes.{regrouped, same_object, same_tid, same_member, same_move, same_persons}
+use Rattle.walter_names.proofs.Numbers.{same_told}
 use Rattle.walter_request.specs.Requests.{request_spelled, IsRequest, Spells}
 
 -- a request is its operation, and its fields
@@ -21,6 +23,11 @@ operation_of (SetReadId oid id) = 7
 operation_of Commit = 8
 operation_of Abort = 9
 operation_of (Level tid) = 10
+operation_of (Handover container to) = 11
+operation_of (StartAt token) = 12
+operation_of Token = 13
+operation_of (Befriend a b) = 14
+operation_of (Unfriend a b) = 15
 
 abbrev pub fields_spelled : Request → List ℕ
 fields_spelled Start = []
@@ -33,6 +40,11 @@ fields_spelled (SetReadId oid id) = member_spelled oid id
 fields_spelled Commit = []
 fields_spelled Abort = []
 fields_spelled (Level tid) = tid_spelled tid
+fields_spelled (Handover container to) = move_spelled container to
+fields_spelled (StartAt token) = told_spelled token
+fields_spelled Token = []
+fields_spelled (Befriend a b) = persons_spelled a b
+fields_spelled (Unfriend a b) = persons_spelled a b
 
 pub request_parts : (a : Request) (x : List ℕ) → request_spelled a ++ x ≡ number_spelled 1 (operation_of a) ++ (fields_spelled a ++ x)
 request_parts Start x = refl
@@ -45,6 +57,11 @@ request_parts (SetReadId oid id) x = append_assoc (number_spelled 1 7) (member_s
 request_parts Commit x = refl
 request_parts Abort x = refl
 request_parts (Level tid) x = append_assoc (number_spelled 1 10) (tid_spelled tid) x
+request_parts (Handover container to) x = append_assoc (number_spelled 1 11) (move_spelled container to) x
+request_parts (StartAt token) x = append_assoc (number_spelled 1 12) (told_spelled token) x
+request_parts Token x = refl
+request_parts (Befriend a b) x = append_assoc (number_spelled 1 14) (persons_spelled a b) x
+request_parts (Unfriend a b) x = append_assoc (number_spelled 1 15) (persons_spelled a b) x
 
 pub operation_of-lt : (a : Request) → operation_of a < 256
 operation_of-lt Start = omega arith
@@ -57,6 +74,11 @@ operation_of-lt (SetReadId oid id) = omega arith
 operation_of-lt Commit = omega arith
 operation_of-lt Abort = omega arith
 operation_of-lt (Level tid) = omega arith
+operation_of-lt (Handover container to) = omega arith
+operation_of-lt (StartAt token) = omega arith
+operation_of-lt Token = omega arith
+operation_of-lt (Befriend a b) = omega arith
+operation_of-lt (Unfriend a b) = omega arith
 
 same_fields : (a b : Request) (x y : List ℕ) → operation_of a ≡ operation_of b → IsRequest a → IsRequest b → fields_spelled a ++ x ≡ fields_spelled b ++ y → (a ≡ b) × (x ≡ y)
 same_fields Start Start x y same fits_a fits_b e = (refl, e)
@@ -72,6 +94,11 @@ same_fields (SetReadId a m) (SetReadId b n) x y same fits_a fits_b e = let parts
 same_fields Commit Commit x y same fits_a fits_b e = (refl, e)
 same_fields Abort Abort x y same fits_a fits_b e = (refl, e)
 same_fields (Level a) (Level b) x y same fits_a fits_b e = let parts = same_tid a b x y fits_a fits_b e in ((λ i. Level (parts.0 i)), parts.1)
+same_fields (Handover c t) (Handover d u) x y same fits_a fits_b e = let parts = same_move c d t u x y fits_a fits_b e in ((λ i. Handover (parts.0 i) (parts.1 i)), parts.2)
+same_fields (StartAt v) (StartAt w) x y same fits_a fits_b e = let parts = same_told v w x y fits_a fits_b e in ((λ i. StartAt (parts.0 i)), parts.1)
+same_fields Token Token x y same fits_a fits_b e = (refl, e)
+same_fields (Befriend a b) (Befriend m n) x y same fits_a fits_b e = let parts = same_persons a b m n x y fits_a fits_b e in ((λ i. Befriend (parts.0 i) (parts.1 i)), parts.2)
+same_fields (Unfriend a b) (Unfriend m n) x y same fits_a fits_b e = let parts = same_persons a b m n x y fits_a fits_b e in ((λ i. Unfriend (parts.0 i) (parts.1 i)), parts.2)
 same_fields _ _ x y same fits_a fits_b e = absurd (omega (arith, same))
 
 pub same_request : (a b : Request) (x y : List ℕ) → IsRequest a → IsRequest b → request_spelled a ++ x ≡ request_spelled b ++ y → (a ≡ b) × (x ≡ y)

@@ -3,9 +3,10 @@ use Rattle.std.specs.Prelude.{◌≡◌, ◌≢◌, ℕ, List, [], ◌∷◌, �
 use Rattle.walter_base.specs.declared.message.Request.{Request}
 use Rattle.walter_fields.specs.Cursors.{Remainder, Takes}
 use Rattle.walter_fields.specs.Spellings.{IsBytes, number_spelled}
-use Rattle.walter_request.specs.Requests.{request_spelled, IsRequest, Spells, SpellsWrite, IsOperation}
+use Rattle.walter_request.specs.Requests.{request_spelled, IsRequest, Spells, NeedsMemory, IsOperation}
+use Rattle.walter_names.specs.Vectors.{IsWidth}
 use Rattle.walter_request.specs.declared.fault.Stop.{Stop}
-use Rattle.walter_request.specs.declared.fault.Stop.TheVariants.{Cut, Unknown, Behind, NoMemory}
+use Rattle.walter_request.specs.declared.fault.Stop.TheVariants.{Cut, Unknown, Width, Behind, NoMemory}
 
 -- what was taken ends the spelling of the request, which the operation begins
 pub record EndsWith (operation : ℕ) (old new : Remainder) (request : Request) : Type 0 where
@@ -26,6 +27,13 @@ pub record StartsUnknown (bytes : List ℕ) : Type 0 where
   pub is : bytes ≡ byte ∷ rest
   pub unknown : ¬ IsOperation byte
 
+-- a start at a token, of a width that is none
+pub record HasNoWidth (bytes : List ℕ) : Type 0 where
+  pub wide : ℕ
+  pub rest : List ℕ
+  pub is : bytes ≡ 12 ∷ wide ∷ rest
+  pub none : ¬ IsWidth wide
+
 -- a request was read of what was left, and some bytes are behind it
 pub record LeavesSome (old new : Remainder) : Type 0 where
   pub request : Request
@@ -37,8 +45,9 @@ pub record LeavesSome (old new : Remainder) : Type 0 where
 abbrev pub StopsAt : (old new : Remainder) → Stop → Type 0
 StopsAt old new Cut = IsBytes old.left → IsFront old.left
 StopsAt old new Unknown = StartsUnknown old.left
+StopsAt old new Width = HasNoWidth old.left
 StopsAt old new Behind = LeavesSome old new
-StopsAt old new NoMemory = SpellsWrite old.left
+StopsAt old new NoMemory = NeedsMemory old.left
 
 -- what was left, with the operation in front of it
 abbrev pub with_operation : ℕ → Remainder → Remainder

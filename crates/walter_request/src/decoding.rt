@@ -6,9 +6,11 @@ ghost use Rattle.walter_request.specs.declared.fault.Stop.TheVariants.{Behind};
 
 use crate::fault::{RequestFault, Stop};
 use std::alloc::Global;
-use walter_base::{Request, SharedBytes};
+use walter_base::{Request, SharedBytes, Snapshot};
 use walter_fields::Cursor;
-use walter_names::{read_member, read_object, read_tid};
+use walter_names::{
+    read_member, read_move, read_numbers, read_object, read_persons, read_tid,
+};
 
 /// Nothing stands behind what was read.
 fn expect_end(cursor: &Cursor) -> Result<(), Stop>
@@ -84,6 +86,52 @@ fn read_level(cursor: &mut Cursor) -> Result<Request, Stop>
     Ok(Request::Level(read_tid(cursor)?))
 }
 
+/// What stands behind the operation Handover.
+fn read_handover(cursor: &mut Cursor) -> Result<Request, Stop>
+    ensures ends { IfOk result (EndsWith 11 cursor.old cursor.new) }
+    ensures stop { IfErr result (StopsBehind 11 cursor.old cursor.new) }
+{
+    let (container, to) = read_move(cursor)?;
+    Ok(Request::Handover(container, to))
+}
+
+/// The fewest and the most numbers that a token may have.
+const NARROWEST: u8 = 1;
+
+const WIDEST: u8 = 16;
+
+/// What stands behind the operation StartAt. Its numbers take memory, so the end is looked for before.
+fn read_start_at(alloc: Global, cursor: &mut Cursor) -> Result<Request, Stop>
+    ensures ends { IfOk result (EndsWith 12 cursor.old cursor.new) }
+    ensures stop { IfErr result (StopsBehind 12 cursor.old cursor.new) }
+{
+    let width = cursor.u8()?;
+    if width < NARROWEST || width > WIDEST {
+        return Err(Stop::Width);
+    }
+    let token = read_numbers(cursor, width)?;
+    expect_end(cursor)?;
+    Ok(Request::StartAt(Snapshot::new(alloc, token)?))
+}
+
+/// What stands behind the operation Befriend.
+fn read_befriend(cursor: &mut Cursor) -> Result<Request, Stop>
+    ensures ends { IfOk result (EndsWith 14 cursor.old cursor.new) }
+    ensures stop { IfErr result (StopsBehind 14 cursor.old cursor.new) }
+{
+    let (a, b) = read_persons(cursor)?;
+    Ok(Request::Befriend(a, b))
+}
+
+/// What stands behind the operation Unfriend.
+fn read_unfriend(cursor: &mut Cursor) -> Result<Request, Stop>
+    ensures ends { IfOk result (EndsWith 15 cursor.old cursor.new) }
+    ensures stop { IfErr result (StopsBehind 15 cursor.old cursor.new) }
+{
+    let (a, b) = read_persons(cursor)?;
+    Ok(Request::Unfriend(a, b))
+}
+
 /// What stands behind the operation.
 fn read_fields(alloc: Global, cursor: &mut Cursor, operation: u8) -> Result<Request, Stop>
     ensures ends { IfOk result (EndsWith operation cursor.old cursor.new) }
@@ -100,6 +148,11 @@ fn read_fields(alloc: Global, cursor: &mut Cursor, operation: u8) -> Result<Requ
         8 => Ok(Request::Commit),
         9 => Ok(Request::Abort),
         10 => read_level(cursor),
+        11 => read_handover(cursor),
+        12 => read_start_at(alloc, cursor),
+        13 => Ok(Request::Token),
+        14 => read_befriend(cursor),
+        15 => read_unfriend(cursor),
         _ => Err(Stop::Unknown),
     }
 }
@@ -115,7 +168,7 @@ fn read_request(alloc: Global, cursor: &mut Cursor) -> Result<Request, Stop>
     Ok(request)
 }
 
-/// The request that the body of a frame spells. Only the bytes of a Write take memory.
+/// The request that the body of a frame spells. Only the bytes of a Write and the numbers of a token take memory.
 pub fn decode(alloc: Global, body: &[u8]) -> Result<Request, RequestFault>
     requires { length body.now ≤ 65536 }
     ensures spelled { IfOk result (λ request. Spells body.now request) }
@@ -128,6 +181,7 @@ pub fn decode(alloc: Global, body: &[u8]) -> Result<Request, RequestFault>
             at: body.len() as u32,
         }),
         Err(Stop::Unknown) => Err(RequestFault::BadFrame { at: 0 }),
+        Err(Stop::Width) => Err(RequestFault::BadFrame { at: 1 }),
         Err(Stop::Behind) => Err(RequestFault::BadFrame {
             at: cursor.place() as u32,
         }),

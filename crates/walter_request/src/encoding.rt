@@ -5,7 +5,7 @@ ghost use Rattle.walter_request.specs.Requests.{request_spelled, FitsFrame};
 use std::alloc::Global;
 use walter_base::{Bytes, Mem, NoMemory, Request};
 use walter_fields::Appender;
-use walter_names::{write_member, write_object, write_tid};
+use walter_names::{write_member, write_move, write_object, write_persons, write_tid, write_told};
 
 /// How many bytes the spelling has.
 #[tactic(auto, using(crate::proofs::Lengths::lengths))]
@@ -14,11 +14,14 @@ fn size_of(request: &Request) -> usize
     ensures { result ≡ length (request_spelled request.now) }
 {
     match request {
-        Request::Start | Request::Commit | Request::Abort => 1,
+        Request::Start | Request::Commit | Request::Abort | Request::Token => 1,
         Request::Read(_) | Request::SetRead(_) => 13,
         Request::Write(_, bytes) => 17 + bytes.len(),
         Request::SetAdd(_, _) | Request::SetDel(_, _) | Request::SetReadId(_, _) => 21,
         Request::Level(_) => 14,
+        Request::Handover(_, _) => 6,
+        Request::StartAt(token) => 2 + 8 * token.vector().as_slice().len(),
+        Request::Befriend(_, _) | Request::Unfriend(_, _) => 17,
     }
 }
 
@@ -61,6 +64,23 @@ fn append(out: &mut Appender, request: &Request)
         Request::Level(tid) => {
             out.u8(10);
             write_tid(out, *tid);
+        }
+        Request::Handover(container, to) => {
+            out.u8(11);
+            write_move(out, *container, *to);
+        }
+        Request::StartAt(token) => {
+            out.u8(12);
+            write_told(out, token.as_slice());
+        }
+        Request::Token => out.u8(13),
+        Request::Befriend(a, b) => {
+            out.u8(14);
+            write_persons(out, *a, *b);
+        }
+        Request::Unfriend(a, b) => {
+            out.u8(15);
+            write_persons(out, *a, *b);
         }
     }
 }

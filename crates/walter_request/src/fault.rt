@@ -23,9 +23,11 @@ pub(crate) enum Stop {
     Cut,
     /// The first byte is no operation.
     Unknown,
+    /// The width of a token is none.
+    Width,
     /// Bytes stand behind the request.
     Behind,
-    /// The request is a Write, and there is no memory for its bytes.
+    /// There is no memory for the bytes of a Write, or for the numbers of a token.
     NoMemory,
 }
 

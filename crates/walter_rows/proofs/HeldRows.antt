@@ -10,7 +10,7 @@ use Rattle.walter_base.specs.declared.names.ObjId.{ObjId}
 use Rattle.walter_base.specs.declared.names.Version.{Version}
 use Rattle.walter_base.specs.declared.update.Row.{Row}
 use Rattle.walter_base.specs.declared.update.Update.{Update}
-use Rattle.walter_base.specs.declared.update.Update.TheVariants.{Write, Add, Del}
+use Rattle.walter_base.specs.declared.update.Update.TheVariants.{Write, Add, Del, Move}
 use Rattle.walter_base.specs.Names.{same_object}
 use Rattle.walter_base.specs.Values.{value_from, count_of, adds, takes, write_set}
 use Rattle.walter_base.specs.Vectors.{entry_at}
@@ -87,6 +87,7 @@ value_on oid base (Add at id ∷ us) =
 value_on oid base (Del at id ∷ us) =
     let others = filter (changes oid) us in
     elim (same_object at oid) as (λ b. value_from base oid (cond b (Del at id ∷ others) others) ≡ value_from base oid us) [ true ↦ value_on oid base us | false ↦ value_on oid base us ]
+value_on oid base (Move container to ∷ us) = value_on oid base us
 
 -- a test that fails where another does passes the same among what passes that one
 passed_on : {X : Type 0} (p q : X → Bool) → ((x : X) → q x ≡ false → p x ≡ false) → (xs : List X) → filter p (filter q xs) ≡ filter p xs
@@ -105,11 +106,13 @@ no_adds : (oid : ObjId) (id : ℕ) (update : Update) → changes oid update ≡ 
 no_adds oid id (Write at bytes) other = refl
 no_adds oid id (Add at name) other = rw other refl
 no_adds oid id (Del at name) other = refl
+no_adds oid id (Move container to) other = refl
 
 no_takes : (oid : ObjId) (id : ℕ) (update : Update) → changes oid update ≡ false → takes oid id update ≡ false
 no_takes oid id (Write at bytes) other = refl
 no_takes oid id (Add at name) other = refl
 no_takes oid id (Del at name) other = rw other refl
+no_takes oid id (Move container to) other = refl
 
 pub count_on : (oid : ObjId) (id : ℕ) (updates : List Update) → count_of oid id (filter (changes oid) updates) ≡ count_of oid id updates
 count_on oid id updates =
@@ -150,6 +153,7 @@ first_of_unseen v oid version (Del at id ∷ us) others unseen =
     let behind = rows_on oid (map (row_with version) us) in
     elim (same_object at oid) as (λ b. first_outside v (versions_in (cond b (row_with version (Del at id) ∷ behind) behind) ++ others)
     ≡ (if list_any (same_object oid) (write_set us) then Some version else first_outside v others)) [ true ↦ rest | false ↦ rest ]
+first_of_unseen v oid version (Move container to ∷ us) others unseen = first_of_unseen v oid version us others unseen
 
 -- those of one that it sees are passed over
 first_of_seen : (v : List ℕ) (oid : ObjId) (version : Version) (updates : List Update) (others : List Version) → nat_le version.seq (entry_at v version.site) ≡ true

@@ -1,5 +1,6 @@
 -- The rows that a log spells: for each update one, with the version of its transaction.
-use Rattle.std.specs.Prelude.{◌≡◌, ℕ, ◌≤◌, Bool, List, [], map, filter, flat_map, count_by, All, IsTrue}
+use Rattle.std.specs.Prelude.{◌≡◌, ℕ, ◌≤◌, Bool, false, List, [], map, filter, flat_map, count_by, All, IsTrue, IfSome}
+use Rattle.std.specs.Option.{option_map_or}
 use Rattle.walter_base.specs.declared.catalog.Catalog.{Catalog}
 use Rattle.walter_base.specs.declared.message.Record.{Record}
 use Rattle.walter_base.specs.declared.message.Record.TheVariants.{Own, Got}
@@ -32,7 +33,7 @@ rows_told rec = []
 
 -- whether an update changes the object
 abbrev pub changes : ObjId → Update → Bool
-changes oid update = same_object (object_of update) oid
+changes oid update = option_map_or (λ at. same_object at oid) (object_of update) false
 
 -- those of the rows that change the object
 abbrev pub rows_on : ObjId → List Row → List Row
@@ -67,7 +68,10 @@ SeesAlike before after log = All (λ h. sees after h ≡ sees before h) log
 abbrev pub count_on : ObjId → List Update → ℕ
 count_on oid updates = count_by (changes oid) updates
 
+-- the history has room for an update among the updates, if it changes an object
+abbrev pub HasRoomFor : Table → List Update → Update → Type 0
+HasRoomFor history updates update = IfSome (object_of update) (λ oid. count_on oid updates ≤ room_of history oid)
+
 -- the history has room for the updates of each of their objects
 abbrev pub HaveRoom : Table → List Update → Type 0
-HaveRoom history updates =
-    All (λ update. count_on (object_of update) updates ≤ room_of history (object_of update)) updates
+HaveRoom history updates = All (HasRoomFor history updates) updates

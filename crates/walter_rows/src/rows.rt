@@ -1,11 +1,12 @@
 //! The rows that a transaction's updates spell, put into a history.
-ghost use Rattle.std.specs.Prelude.{◌≡◌, ◌++◌, ◌∷◌, [], List, map, IfOk, OnOk};
+ghost use Rattle.std.specs.Prelude.{◌≡◌, ◌++◌, ◌∷◌, [], List, map, IfOk, OnOk, ◌<◌, ◌≤◌, ◌+◌, IfSome, if◌then◌else◌};
 ghost use Rattle.walter_base.specs.declared.catalog.Catalog.{Catalog};
 ghost use Rattle.walter_base.specs.declared.names.ObjId.{ObjId as Object};
+ghost use Rattle.walter_base.specs.Values.{object_of};
 ghost use Rattle.walter_base.specs.declared.update.Row.{Row as Told};
 ghost use Rattle.walter_history.specs.Kept.{StandsForRows, IsFoldedAt};
-ghost use Rattle.walter_history.specs.Lines.{kept_of};
-ghost use Rattle.walter_rows.specs.Rows.{row_with, rows_from, rows_told, rows_on, count_on, AreRowsOf, HasDeclared, HaveRoom};
+ghost use Rattle.walter_history.specs.Lines.{kept_of, room_of};
+ghost use Rattle.walter_rows.specs.Rows.{row_with, rows_from, rows_told, rows_on, changes, count_on, AreRowsOf, HasDeclared, HasRoomFor, HaveRoom};
 ghost use Rattle.walter_rules.specs.declared.held.Held.{Held};
 ghost use Rattle.walter_base.specs.Vectors.{Covers};
 
@@ -47,8 +48,21 @@ fn count_on(oid: ObjId, updates: &[Update]) -> u64
 {
     updates
         .iter()
-        .filter(|update| update.object() == oid)
+        .filter(|update| update.object() == Some(oid))
         .count() as u64
+}
+
+/// Makes room for the rows of the object that the update changes, if it changes one.
+fn reserve_for(history: &mut History, updates: &[Update], update: &Update) -> Mem<()>
+    ensures enough { OnOk result (HasRoomFor history.new updates.now update.now) }
+    ensures kept { (oid : Object) → kept_of history.new oid ≡ kept_of history.old oid }
+    ensures room { (oid : Object) → room_of history.old oid ≤ room_of history.new oid }
+    ensures floor { history.new.floor ≡ history.old.floor }
+{
+    match update.object() {
+        Some(oid) => history.reserve(oid, count_on(oid, updates)),
+        None => Ok(()),
+    }
 }
 
 /// Makes room for the rows of the updates.
@@ -60,10 +74,26 @@ pub fn make_room(history: &mut History, updates: &[Update]) -> Mem<()>
     // A transaction has at most 256 updates, so counting anew at each of them is at most 256² comparisons, and takes no
     // memory.
     for update in updates {
-        let oid = update.object();
-        history.reserve(oid, count_on(oid, updates))?;
+        reserve_for(history, updates, update)?;
     }
     Ok(())
+}
+
+/// Puts the row behind the others of its object, if it changes one.
+fn append_one(history: &mut History, row: Row)
+    requires { IfSome (object_of row.update) (λ oid. 0 < room_of history.old oid) }
+    ensures stands { (oid : Object) (told : List Told)
+        → StandsForRows oid history.old.floor (kept_of history.old oid) told
+        → StandsForRows oid history.old.floor (kept_of history.new oid) (told ++ rows_on oid (row ∷ [])) }
+    ensures room { (oid : Object)
+        → (if changes oid row.update then room_of history.old oid else room_of history.old oid + 1)
+        ≤ room_of history.new oid + 1 }
+    ensures floor { history.new.floor ≡ history.old.floor }
+{
+    match row.update.object() {
+        Some(oid) => history.append(oid, row),
+        None => {}
+    }
 }
 
 /// Puts each row behind the others of its object, without taking memory.
@@ -77,7 +107,7 @@ pub fn append_all(history: &mut History, rows: Vec<Row>)
     ensures floor { history.new.floor ≡ history.old.floor }
 {
     for row in rows {
-        history.append(row.update.object(), row);
+        append_one(history, row);
     }
 }
 

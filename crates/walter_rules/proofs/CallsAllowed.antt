@@ -1,7 +1,8 @@
 -- What the rule says of a client's call is of one of the kinds, and what it puts out is so, and in order.
-use Rattle.std.proofs.Common.{◌≡◌, ◌≢◌, ℕ, ℤ, zero, suc, Bool, true, false, not, nat_lt, List, [], ◌∷◌, length, Option, Some, None, Result, Ok, Err, refl, ap, sym, ◌∙◌, arith, if◌then◌else◌}
+use Rattle.std.proofs.Common.{◌≡◌, ℕ, ℤ, zero, suc, Bool, true, false, not, ◌&&◌, nat_lt, List, [], ◌∷◌, length, Option, Some, None, Result, Ok, Err, ◌<◌, ◌≢◌, refl, ap, sym, ◌∙◌, arith, if◌then◌else◌, nat_eq}
 use Rattle.std.specs.FinMap.{get}
-use Rattle.std.proofs.lemmas.Bool.{cond_both, not-false, eq-eqb}
+use Rattle.std.proofs.lemmas.Bool.{cond_both, not-false, not-true, and_parts, ltb-true, eq-eqb, eqb-true, eqb-false}
+use Rattle.std.proofs.lemmas.Option.{same_Some}
 use Rattle.walter_base.specs.declared.catalog.Catalog.{Catalog}
 use Rattle.walter_base.specs.declared.containers.Container.{Container}
 use Rattle.walter_base.specs.declared.message.BadFrame.{BadFrame as Bad}
@@ -9,11 +10,11 @@ use Rattle.walter_base.specs.declared.message.Level.TheVariants.{NotCommitted, R
 use Rattle.walter_base.specs.declared.message.Record.{Record}
 use Rattle.walter_base.specs.declared.message.Record.TheVariants.{Own, SlowBegin}
 use Rattle.walter_base.specs.declared.message.Refusal.{Refusal}
-use Rattle.walter_base.specs.declared.message.Refusal.TheVariants.{UnknownContainer, WrongKind, TxFull, TooLong, NoTx, TxOpen, Gone, BadFrame, Down as IsDown, SetTooWide, SessionsFull, WrongSite, NotIssued}
+use Rattle.walter_base.specs.declared.message.Refusal.TheVariants.{UnknownContainer, WrongKind, TxFull, TooLong, NoTx, TxOpen, Gone, BadFrame, Down as IsDown, SetTooWide, SessionsFull, WrongSite, NotIssued, NotHolder, Busy, BadTarget, BadVector, Reserved, SamePerson, NoFriends}
 use Rattle.walter_base.specs.declared.message.Reply.{Reply}
-use Rattle.walter_base.specs.declared.message.Reply.TheVariants.{Started, Value, Done, Set, Count, Committed, Aborted, Deciding, Level, Ended, Refused}
+use Rattle.walter_base.specs.declared.message.Reply.TheVariants.{Started, Value, Done, Set, Count, Committed, Aborted, Deciding, Level, Ended, Token as TokenIs, Refused}
 use Rattle.walter_base.specs.declared.message.Request.{Request}
-use Rattle.walter_base.specs.declared.message.Request.TheVariants.{Start, Read, Write, SetAdd, SetDel, SetRead, SetReadId, Commit, Abort, Level as LevelAsked}
+use Rattle.walter_base.specs.declared.message.Request.TheVariants.{Start, Read, Write, SetAdd, SetDel, SetRead, SetReadId, Commit, Abort, Level as LevelAsked, Handover, StartAt, Token, Befriend, Unfriend}
 use Rattle.walter_base.specs.declared.names.Kind.{Kind}
 use Rattle.walter_base.specs.declared.names.Kind.TheVariants.{Regular, Cset}
 use Rattle.walter_base.specs.declared.names.ObjId.{ObjId}
@@ -25,6 +26,7 @@ use Rattle.walter_base.specs.declared.transaction.Tx.{Tx}
 use Rattle.walter_base.specs.declared.update.Update.{Update}
 use Rattle.walter_base.specs.declared.update.Update.TheVariants.{Write as WriteOf, Add, Del}
 use Rattle.walter_base.specs.Names.{same_site}
+use Rattle.walter_base.specs.Friends.{list_of, pair, both}
 use Rattle.walter_base.specs.Sending.{AreInOrder}
 use Rattle.walter_base.specs.Values.{value_of, count_of, counts_of}
 use Rattle.walter_base.proofs.NameTests.{same_site-true, same_site_refl}
@@ -33,18 +35,18 @@ use Rattle.walter_rules.specs.declared.event.Event.TheVariants.{Given}
 use Rattle.walter_rules.specs.declared.event.Input.TheVariants.{Call}
 use Rattle.walter_rules.specs.declared.outcome.Outcome.{Outcome}
 use Rattle.walter_rules.specs.declared.outcome.Outcome.TheVariants.{Replied}
-use Rattle.walter_rules.specs.Allowed.{IsKind, IsAllowed, HasOpen, HasBegun, IsUpdateCall, IsReadCall, AreClear}
-use Rattle.walter_rules.specs.Calls.{Expected, answers, refuses, read_updates, next_tid, next_seq, next_slow, own_version, commits_fast, begins_slow, if_local, decides, commits_open, seq_of, tells_version, tells_cause, tells_decision, commits_by, if_whole, if_regular, if_counted, if_cset, has_place, updates_with, writes, shows, is_undecided, is_open, level_of_own, level_by, level_of, is_issued, if_open, open_in, starts_for, commits_for, with_open, call_rule, if_told, down_rule}
+use Rattle.walter_rules.specs.Allowed.{IsKind, IsAllowed, HasOpen, HasBegun, IsUpdateCall, IsReadCall, AreClear, IsStartCall}
+use Rattle.walter_rules.specs.Calls.{Expected, move_of, moves, busy_with, if_free, hands_over, answers, refuses, read_updates, next_tid, next_seq, next_slow, own_version, commits_fast, begins_slow, if_local, decides, commits_open, seq_of, tells_version, tells_cause, tells_decision, commits_by, if_whole, if_regular, if_counted, if_cset, has_place, updates_with, writes, shows, is_undecided, is_open, level_of_own, level_by, level_of, is_issued, if_open, open_in, starts_for, commits_for, with_open, call_rule, if_told, down_rule, first_behind, starts_unless, starts_from, starts_at_for, if_unreserved, has_places, befriends}
 use Rattle.walter_rules.specs.Conflicts.{first_conflict, cause_of}
-use Rattle.walter_rules.specs.Declarations.{is_of_kind, is_declared}
-use Rattle.walter_rules.specs.Knowledge.{Knowledge, session_of}
+use Rattle.walter_rules.specs.Declarations.{is_of_kind, is_declared, is_known, are_declared}
+use Rattle.walter_rules.specs.Knowledge.{Knowledge, preferred_in, session_of, vector_of}
 use Rattle.walter_rules.specs.Learning.{recorded, after}
-use Rattle.walter_rules.specs.Objects.{objects_at, are_local, participants}
+use Rattle.walter_rules.specs.Objects.{objects_at, are_local, participants, busy}
 use Rattle.walter_rules.specs.Sending.{prepare_of}
 use Rattle.walter_rules.specs.Sessions.{Session, with_slow, tx_of}
 use Rattle.walter_rules.specs.Slow.{Slow, Unused, Undecided, Dropped, Decided}
 use Rattle.walter_rules.specs.Standing.{Standing}
-use Rattle.walter_rules.proofs.RuleTests.{kind_of, clear_there}
+use Rattle.walter_rules.proofs.RuleTests.{kind_of, clear_there, other_site, none_behind}
 use Rattle.walter_rules.proofs.SaidTrue.{AreTrue, nothing_sent, each_sent, one_to, own_sent}
 use Rattle.walter_rules.proofs.SendsInOrder.{nothing_in_order, own_in_order, prepares_in_order}
 use Rattle.walter_rules.proofs.WrittenObjects.{local_at}
@@ -81,6 +83,8 @@ module _ (catalog : Catalog) (i : SiteId) (S : Standing) where
   told_allowed client call None x is = is
   told_allowed client (Err bad) (Some tid) x is = is
   told_allowed client (Ok (LevelAsked asked)) (Some tid) x is = is
+  told_allowed client (Ok (Handover container to)) (Some tid) x is = is
+  told_allowed client (Ok Token) (Some tid) x is = is
   told_allowed client (Ok Start) (Some tid) x is = refused client (Ok Start) (Gone tid)
   told_allowed client (Ok (Read oid)) (Some tid) x is = refused client (Ok (Read oid)) (Gone tid)
   told_allowed client (Ok (Write oid bytes)) (Some tid) x is = refused client (Ok (Write oid bytes)) (Gone tid)
@@ -90,6 +94,9 @@ module _ (catalog : Catalog) (i : SiteId) (S : Standing) where
   told_allowed client (Ok (SetReadId oid id)) (Some tid) x is = refused client (Ok (SetReadId oid id)) (Gone tid)
   told_allowed client (Ok Commit) (Some tid) x is = refused client (Ok Commit) (Gone tid)
   told_allowed client (Ok Abort) (Some tid) x is = refused client (Ok Abort) (Gone tid)
+  told_allowed client (Ok (StartAt token)) (Some tid) x is = refused client (Ok (StartAt token)) (Gone tid)
+  told_allowed client (Ok (Befriend a b)) (Some tid) x is = refused client (Ok (Befriend a b)) (Gone tid)
+  told_allowed client (Ok (Unfriend a b)) (Some tid) x is = refused client (Ok (Unfriend a b)) (Gone tid)
 
   -- at a site that is down each call is refused
   pub down_allowed : (client : ℕ) (call : Result Request Bad) → Allows (Given (Call client call)) (down_rule call)
@@ -147,12 +154,56 @@ module _ (catalog : Catalog) (i : SiteId) (S : Standing) where
 
     -- an update is done where the transaction has a place for it
     placed : (client : ℕ) (call : Result Request Bad) (s : Session) (update : Update) → HasOpen S client s
-        → IsUpdateCall call update
+        → IsUpdateCall catalog.friends call (update ∷ [])
         → is_declared catalog update ≡ true → Allows (Given (Call client call)) (updates_with s update)
     placed client call s update has asks is =
         either (Given (Call client call)) (has_place s.updates update) (answers Done) (refuses TxFull)
-        (λ place. quiet (Given (Call client call)) None (Replied Done) (IsKind.does client call s update has asks is))
+        (λ place. quiet (Given (Call client call)) None (Replied Done)
+        (IsKind.does client call s (update ∷ []) has asks (rw is refl)))
         (λ full. refused client call TxFull)
+
+    -- an update of a set that is no friend list
+    unreserved : (client : ℕ) (call : Result Request Bad) (oid : ObjId) (friends : Option ℕ) (x : Expected)
+        → catalog.friends ≡ friends
+        → (catalog.friends ≢ Some oid.container → Allows (Given (Call client call)) x)
+        → Allows (Given (Call client call)) (if_unreserved friends oid x)
+    unreserved client call oid None x at is =
+        is (λ e. let clash : ◌≡◌ {A = Option ℕ} None (Some oid.container) = sym at ∙ e in cc)
+    unreserved client call oid (Some friends) x at is =
+        either (Given (Call client call)) (nat_eq friends oid.container) (refuses Reserved) x
+        (λ same. refused client call Reserved)
+        (λ apart. is (λ e. eqb-false friends oid.container apart
+        (same_Some friends oid.container (sym at ∙ e))))
+
+    -- what the updates of friends change is in the catalog
+    pair_declared : (friends a b : ℕ) (gain : Bool) → is_of_kind catalog Cset (list_of friends a) ≡ true
+        → are_declared catalog (both (pair friends a b gain)) ≡ true
+    pair_declared friends a b true kind = rw kind refl
+    pair_declared friends a b false kind = rw kind refl
+
+    -- the two updates of friends
+    paired : (client : ℕ) (call : Result Request Bad) (a b : ℕ) (gain : Bool) (session : Option Session)
+        → session_of S.knows client ≡ session
+        → ((friends : ℕ) → catalog.friends ≡ Some friends
+        → IsUpdateCall catalog.friends call (both (pair friends a b gain)))
+        → Allows (Given (Call client call))
+        (with_open (open_in session) (λ s. befriends catalog s catalog.friends a b gain))
+    paired client call a b gain session has asks =
+        opened client call session _ has (λ s has_open. by s has_open catalog.friends refl)
+      where
+        by : (s : Session) → HasOpen S client s → (friends : Option ℕ) → catalog.friends ≡ friends
+            → Allows (Given (Call client call)) (befriends catalog s friends a b gain)
+        by s has_open None at = refused client call NoFriends
+        by s has_open (Some friends) at =
+            either (Given (Call client call)) (nat_eq a b) (refuses SamePerson) _
+            (λ same. refused client call SamePerson)
+            (λ apart. cset client call (list_of friends a) (get catalog.containers friends) _ refl (λ kind.
+            either (Given (Call client call)) (has_places s.updates (both (pair friends a b gain)))
+            (answers Done) (refuses TxFull)
+            (λ place. quiet (Given (Call client call)) None (Replied Done)
+            (IsKind.does client call s (both (pair friends a b gain)) has_open (asks friends at)
+            (pair_declared friends a b gain kind)))
+            (λ full. refused client call TxFull)))
 
     -- a call that reads is answered
     shown : (client : ℕ) (call : Result Request Bad) (s : Session) (reply : Reply) → HasOpen S client s
@@ -193,11 +244,12 @@ module _ (catalog : Catalog) (i : SiteId) (S : Standing) where
     slow_true client s =
         let n : ℕ = next_slow S.knows in
         let tx : Tx = tx_of (with_slow n s) in
+        let wanted : SiteId → List ObjId = λ p. objects_at catalog S.knows p s.updates in
         let receivers : List SiteId = participants catalog S.knows i s.updates in
         each_sent catalog i S.knows (committing client) (begun client s) receivers
-        (λ k. prepare_of catalog S.knows n tx k ∷ []) (λ k within.
-        one_to catalog i S.knows (committing client) (begun client s) k (prepare_of catalog S.knows n tx k)
-        (tx, receivers, rw (eq-eqb n n refl) refl, refl, refl, refl))
+        (λ k. prepare_of wanted n tx k ∷ []) (λ k within.
+        one_to catalog i S.knows (committing client) (begun client s) k (prepare_of wanted n tx k)
+        (tx, receivers, rw (eq-eqb n n refl) refl, refl, refl, rw (eq-eqb n n refl) refl))
 
     -- without a conflict it commits, or its slow commit begins
     local_allowed : (client : ℕ) (s : Session) → HasOpen S client s → s.updates ≢ []
@@ -214,7 +266,8 @@ module _ (catalog : Catalog) (i : SiteId) (S : Standing) where
     )
     local_allowed client s has some clear false is = (
       record { kind = IsKind.begins client s has some clear; sent = slow_true client s },
-      prepares_in_order catalog i S.knows s.updates (next_slow S.knows) (tx_of (with_slow (next_slow S.knows) s)),
+      prepares_in_order catalog i S.knows s.updates (λ p. objects_at catalog S.knows p s.updates) (next_slow S.knows)
+          (tx_of (with_slow (next_slow S.knows) s)),
     )
 
     -- over a conflict it is aborted
@@ -314,9 +367,100 @@ module _ (catalog : Catalog) (i : SiteId) (S : Standing) where
         either (Given (Call client (Ok Start))) (nat_lt (length S.knows.sessions) 256)
         (answers (Started (next_tid i S.knows))) (refuses SessionsFull)
         (λ few. quiet (Given (Call client (Ok Start))) None (Replied (Started (next_tid i S.knows)))
-        (IsKind.starts client up has))
+        (IsKind.starts client (Ok Start) up has IsStartCall.of_start))
         (λ many. refused client (Ok Start) SessionsFull)
     start_allowed client (Some s) has = refused client (Ok Start) TxOpen
+
+    -- a handover as an event, its record, and what is known after it
+    abbrev handing : ℕ → ℕ → SiteId → Event
+    handing client container to = Given (Call client (Ok (Handover container to)))
+
+    abbrev move_record : ℕ → SiteId → Record
+    move_record container to = Own (next_seq i S.knows) (move_of catalog i S.knows container to)
+
+    abbrev handed : ℕ → ℕ → SiteId → Knowledge
+    handed client container to = after catalog i S.knows (handing client container to)
+        (Replied (Committed (own_version i (next_seq i S.knows)))) (Some (move_record container to))
+
+    move_true : (client container : ℕ) (to : SiteId)
+        → AreTrue catalog i S.knows (handing client container to) (handed client container to)
+        (moves catalog i S.knows container to).sends
+    move_true client container to =
+        own_sent catalog i S.knows (handing client container to) (handed client container to) S.knows
+        (recorded catalog i (Some (move_record container to)) S.knows) refl
+        (rw (same_site_refl i) (omega arith)) refl
+
+    -- a container is handed over where no object of it is locked
+    busy_allowed : (client container : ℕ) (to : SiteId) (oid : ObjId) (owner : Option Tid)
+        → Allows (handing client container to) (busy_with oid owner)
+    busy_allowed client container to oid None = refused client (Ok (Handover container to)) NoTx
+    busy_allowed client container to oid (Some owner) = refused client (Ok (Handover container to)) (Busy oid owner)
+
+    free_allowed : (client container : ℕ) (to : SiteId) → is_known catalog container ≡ true → to ≢ i
+        → to.0 < catalog.sites → preferred_in catalog S.knows container ≡ i → (found : Option ObjId)
+        → busy S.knows container ≡ found
+        → Allows (handing client container to) (if_free catalog i S.knows container to found)
+    free_allowed client container to known apart below here None free = (
+      record {
+        kind = IsKind.moves client container to (record {
+          up = up;
+          known = known;
+          apart = apart;
+          below = below;
+          here = here;
+          free = free;
+        });
+        sent = move_true client container to;
+      },
+      own_in_order catalog i S.knows (recorded catalog i (Some (move_record container to)) S.knows),
+    )
+    free_allowed client container to known apart below here (Some oid) free =
+        busy_allowed client container to oid (S.knows.owner oid)
+
+    handover_allowed : (client container : ℕ) (to : SiteId)
+        → Allows (handing client container to) (hands_over catalog i S.knows container to)
+    handover_allowed client container to =
+        let call : Result Request Bad = Ok (Handover container to) in
+        either (handing client container to) (is_known catalog container) _ (refuses UnknownContainer)
+        (λ known. either (handing client container to) (not (same_site to i) && nat_lt to.0 catalog.sites) _
+        (refuses BadTarget)
+        (λ right.
+        let parts = and_parts (not (same_site to i)) (nat_lt to.0 catalog.sites) right in
+        either (handing client container to) (same_site (preferred_in catalog S.knows container) i)
+        (if_free catalog i S.knows container to (busy S.knows container))
+        (refuses (NotHolder (preferred_in catalog S.knows container)))
+        (λ here. free_allowed client container to known
+        (other_site to i (not-true (same_site to i) parts.0)) (ltb-true to.0 catalog.sites parts.1)
+        (same_site-true (preferred_in catalog S.knows container) i here) (busy S.knows container) refl)
+        (λ there. refused client call (NotHolder (preferred_in catalog S.knows container))))
+        (λ wrong. refused client call BadTarget))
+        (λ none. refused client call UnknownContainer)
+
+    -- so it does at a token that sees no more than is committed here
+    unless_allowed : (client : ℕ) (token : List ℕ) → session_of S.knows client ≡ None
+        → length token ≡ catalog.sites → (behind : Option Refusal)
+        → first_behind catalog S.knows token ≡ behind
+        → Allows (Given (Call client (Ok (StartAt token)))) (starts_unless i S.knows behind)
+    unless_allowed client token has wide None none =
+        quiet (Given (Call client (Ok (StartAt token)))) None (Replied (Started (next_tid i S.knows)))
+        (IsKind.starts client (Ok (StartAt token)) up has
+        (IsStartCall.of_token token (none_behind catalog S.knows token wide none)))
+    unless_allowed client token has wide (Some refusal) is = refused client (Ok (StartAt token)) refusal
+
+    start_at_allowed : (client : ℕ) (token : List ℕ) (session : Option Session)
+        → session_of S.knows client ≡ session
+        → Allows (Given (Call client (Ok (StartAt token)))) (starts_at_for catalog i S.knows token session)
+    start_at_allowed client token None has =
+        let event : Event = Given (Call client (Ok (StartAt token))) in
+        either event (nat_lt (length S.knows.sessions) 256) (starts_from catalog i S.knows token)
+        (refuses SessionsFull)
+        (λ few. either event (nat_eq (length token) catalog.sites)
+        (starts_unless i S.knows (first_behind catalog S.knows token)) (refuses BadVector)
+        (λ wide. unless_allowed client token has (eqb-true (length token) catalog.sites wide)
+        (first_behind catalog S.knows token) refl)
+        (λ other. refused client (Ok (StartAt token)) BadVector))
+        (λ many. refused client (Ok (StartAt token)) SessionsFull)
+    start_at_allowed client token (Some s) has = refused client (Ok (StartAt token)) TxOpen
 
     -- each call, by the session of its client
     pub call_allowed : (client : ℕ) (call : Result Request Bad) (session : Option Session)
@@ -342,12 +486,14 @@ module _ (catalog : Catalog) (i : SiteId) (S : Standing) where
         let call : Result Request Bad = Ok (SetAdd oid id) in
         opened client call session _ has
         (λ s has_open. cset client call oid (get catalog.containers oid.container) _ refl (λ kind.
-        placed client call s (Add oid id) has_open (IsUpdateCall.of_add oid id) kind))
+        unreserved client call oid catalog.friends _ refl (λ free.
+        placed client call s (Add oid id) has_open (IsUpdateCall.of_add oid id free) kind)))
     call_allowed client (Ok (SetDel oid id)) session has =
         let call : Result Request Bad = Ok (SetDel oid id) in
         opened client call session _ has
         (λ s has_open. cset client call oid (get catalog.containers oid.container) _ refl (λ kind.
-        placed client call s (Del oid id) has_open (IsUpdateCall.of_del oid id) kind))
+        unreserved client call oid catalog.friends _ refl (λ free.
+        placed client call s (Del oid id) has_open (IsUpdateCall.of_del oid id free) kind)))
     call_allowed client (Ok (SetRead oid)) session has =
         let call : Result Request Bad = Ok (SetRead oid) in
         opened client call session _ has (λ s has_open.
@@ -375,3 +521,14 @@ module _ (catalog : Catalog) (i : SiteId) (S : Standing) where
         (λ issued. level_allowed client tid
         (same_site-true tid.site i (not-false (same_site tid.site i) right)) issued (seq_of i S.knows tid) refl)
         (λ not_issued. refused client call NotIssued))
+    call_allowed client (Ok (Handover container to)) session has = handover_allowed client container to
+    call_allowed client (Ok (StartAt token)) session has = start_at_allowed client token session has
+    call_allowed client (Ok Token) session has =
+        quiet (Given (Call client (Ok Token))) None (Replied (TokenIs (vector_of catalog S.knows)))
+        (IsKind.tells_token client up)
+    call_allowed client (Ok (Befriend a b)) session has =
+        paired client (Ok (Befriend a b)) a b true session has
+        (λ friends at. IsUpdateCall.of_friend friends a b at)
+    call_allowed client (Ok (Unfriend a b)) session has =
+        paired client (Ok (Unfriend a b)) a b false session has
+        (λ friends at. IsUpdateCall.of_unfriend friends a b at)

@@ -16,7 +16,7 @@ use Rattle.walter_base.specs.declared.packet.Answer.TheVariants.{Yes, No, Later}
 use Rattle.walter_base.specs.declared.packet.Packet.{Packet}
 use Rattle.walter_base.specs.declared.packet.Packet.TheVariants.{Propagate, Ack, Dsmark, Visible, Prepare, Vote, Release, Released as ReleasedSaid}
 use Rattle.walter_base.specs.declared.transaction.Conflict.{Conflict}
-use Rattle.walter_base.specs.declared.transaction.Conflict.TheVariants.{Modified, Locked as LockedThere, Dead}
+use Rattle.walter_base.specs.declared.transaction.Conflict.TheVariants.{Modified, Locked as LockedThere, Dead, Moving}
 use Rattle.walter_base.specs.declared.transaction.Tx.{Tx}
 use Rattle.walter_base.specs.Names.{same_site}
 use Rattle.walter_base.specs.Sending.{AreInOrder}
@@ -27,8 +27,8 @@ use Rattle.walter_rules.specs.declared.event.Input.TheVariants.{Deliver, Advance
 use Rattle.walter_rules.specs.declared.outcome.Outcome.TheVariants.{Taken}
 use Rattle.walter_rules.specs.Allowed.{IsKind, IsFromPeer, IsDueThere, IsTrueOf}
 use Rattle.walter_rules.specs.Calls.{next_seq}
-use Rattle.walter_rules.specs.Conflicts.{first_conflict}
-use Rattle.walter_rules.specs.Declarations.{are_lockable}
+use Rattle.walter_rules.specs.Conflicts.{first_there}
+use Rattle.walter_rules.specs.Declarations.{are_regular}
 use Rattle.walter_rules.specs.Deliveries.{passes, takes, back, is_peer, covers, accepts, if_accepted, if_marks, is_news, acknowledged_to, if_acknowledged, if_shown, if_greater, is_unseen, answer_over, prepares, prepares_by, if_lockable, commits_if_all, if_missing, releases_to, ends_slow, votes, if_asked, votes_by, releases, confirms, packet_rule, if_peer, deliver_rule, is_enabled, advances, advance_rule}
 use Rattle.walter_rules.specs.Knowledge.{Knowledge, peers}
 use Rattle.walter_rules.specs.Learning.{recorded, after, risen}
@@ -38,7 +38,7 @@ use Rattle.walter_rules.specs.Sending.{Send, to_each, propagates, into_window, w
 use Rattle.walter_rules.specs.Slow.{Slow, Unused, Undecided, Dropped, Decided, Part, Free, Locked, Over, has_site}
 use Rattle.walter_rules.specs.Standing.{Standing}
 use Rattle.walter_rules.proofs.Membership.{range_from}
-use Rattle.walter_rules.proofs.RuleTests.{has_site_true, peer_true, covers_true, accepted, all_said, unseen_true, first_alive, lockable}
+use Rattle.walter_rules.proofs.RuleTests.{has_site_true, peer_true, covers_true, accepted, all_said, unseen_true, there_alive, lockable}
 use Rattle.walter_rules.proofs.SaidTrue.{AreTrue, nothing_sent, one_sent, each_sent, one_to, both_to, where_to, propagates_to, risen_to, own_sent}
 use Rattle.walter_rules.proofs.SendsInOrder.{nothing_in_order, one_in_order, own_in_order, acknowledged_in_order, releases_in_order}
 use Rattle.walter_rules.proofs.CallsAllowed.{Allows, quiet}
@@ -210,7 +210,7 @@ module _ (catalog : Catalog) (i : SiteId) (S : Standing) where
 
       -- a NO over what was met, or that it is to be asked again
       refusal_true : (conflict : Conflict) → S.knows.part j n ≡ Free
-          → first_conflict S.knows start objects ≡ Some conflict
+          → first_there catalog i S.knows start objects ≡ Some conflict
           → IsTrueOf catalog i S.knows asked_lock S.knows j (Vote n (answer_over S.knows start conflict))
       refusal_true (Modified oid version) free met = record {
         free = free;
@@ -249,11 +249,21 @@ module _ (catalog : Catalog) (i : SiteId) (S : Standing) where
               unknown = is;
             }
           ] refl
-      refusal_true Dead free met = absurd (first_alive S.knows start objects Dead met refl)
+      refusal_true (Moving oid) free met = record {
+        free = free;
+        number = number;
+        tid = tid;
+        start = start;
+        objects = objects;
+        came = refl;
+        met = met;
+        unseen = tt;
+      }
+      refusal_true Dead free met = absurd (there_alive catalog i S.knows start objects Dead met refl)
 
       -- a YES with the lock, or an answer over what was met
-      free_by : are_lockable catalog S.knows i objects ≡ true → S.knows.part j n ≡ Free → (conflict : Option Conflict)
-          → first_conflict S.knows start objects ≡ conflict
+      free_by : are_regular catalog objects ≡ true → S.knows.part j n ≡ Free → (conflict : Option Conflict)
+          → first_there catalog i S.knows start objects ≡ conflict
           → Allows catalog i S asked_lock (prepares S.knows j n tid start objects conflict)
       free_by regular free (Some conflict) met = answering asked_lock j (Vote n (answer_over S.knows start conflict))
           (refusal_true conflict free met)
@@ -264,15 +274,15 @@ module _ (catalog : Catalog) (i : SiteId) (S : Standing) where
           (tid, objects, rw (same_site_refl j, eq-eqb n n refl) refl)
 
       -- by what there is of the slow commit here
-      prepared_by : are_lockable catalog S.knows i objects ≡ true → (part : Part) → S.knows.part j n ≡ part
-          → Allows catalog i S asked_lock (prepares_by S.knows j n tid start objects part)
+      prepared_by : are_regular catalog objects ≡ true → (part : Part) → S.knows.part j n ≡ part
+          → Allows catalog i S asked_lock (prepares_by catalog i S.knows j n tid start objects part)
       prepared_by regular Over is = answering asked_lock j (Vote n (No Dead)) is
       prepared_by regular (Locked owner locked) is = answering asked_lock j (Vote n Yes) (owner, locked, is)
-      prepared_by regular Free is = free_by regular is (first_conflict S.knows start objects) refl
+      prepared_by regular Free is = free_by regular is (first_there catalog i S.knows start objects) refl
 
       -- a PREPARE of objects that can't be locked does nothing
-      lockable_by : (test : Bool) → are_lockable catalog S.knows i objects ≡ test
-          → Allows catalog i S asked_lock (if_lockable test S.knows j n tid start objects)
+      lockable_by : (test : Bool) → are_regular catalog objects ≡ test
+          → Allows catalog i S asked_lock (if_lockable test catalog i S.knows j n tid start objects)
       lockable_by true is = prepared_by is (S.knows.part j n) refl
       lockable_by false is = passing_quietly asked_lock
 
@@ -325,6 +335,7 @@ module _ (catalog : Catalog) (i : SiteId) (S : Standing) where
       votes_allowed Yes = missing_by (not (has_site j (S.knows.said_yes n)))
       votes_allowed (No (Modified oid version)) = ended (Modified oid version) (λ dead. cc)
       votes_allowed (No (LockedThere oid owner)) = ended (LockedThere oid owner) (λ dead. cc)
+      votes_allowed (No (Moving oid)) = ended (Moving oid) (λ dead. cc)
       votes_allowed (No Dead) = passing_quietly (Given (Deliver j number (Vote n (No Dead))))
       votes_allowed Later = passing_quietly (Given (Deliver j number (Vote n Later)))
 
@@ -380,7 +391,7 @@ module _ (catalog : Catalog) (i : SiteId) (S : Standing) where
         (IsKind.hears_durable j number durable peer)
     packet_allowed (Visible committed) = shown_by committed (is_news i S.knows (S.knows.visible j) committed) refl
     packet_allowed (Prepare n tid start objects) =
-        lockable_by n tid start objects (are_lockable catalog S.knows i objects) refl
+        lockable_by n tid start objects (are_regular catalog objects) refl
     packet_allowed (Vote n answer) = voted n answer (S.knows.slow n) refl
     packet_allowed (Release n) = released n (S.knows.part j n) refl
     packet_allowed (ReleasedSaid n) = confirmed n (S.knows.slow n)

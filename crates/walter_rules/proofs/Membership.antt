@@ -34,6 +34,13 @@ module _ {X : Type 0} where
       ]
 
   -- where some pass, there is one that does
+  pub all_pass : (p : X → Bool) (xs : List X) → ((x : X) → Contains xs x → p x ≡ true) → list_all p xs ≡ true
+  all_pass p [] each = refl
+  all_pass p (x ∷ xs) each =
+      let first = each x (first_in x xs) in
+      let rest = all_pass p xs (λ y within. each y (later_in x xs y within)) in
+      rw (first, rest) refl
+
   pub one_passes : (p : X → Bool) (xs : List X) → list_any p xs ≡ true → (x : X) × Contains xs x × (p x ≡ true)
   one_passes p [] some = absurd cc
   one_passes p (y ∷ ys) some = elim (cases_Bool (p y)) [
@@ -75,6 +82,14 @@ module _ {X Y : Type 0} where
   made_from f (x ∷ xs) y within = elim (in_cases (f x) (map f xs) y within) [
     | inl here ↦ (x, first_in x xs, here)
     | inr there ↦ let rest = made_from f xs y there in (rest.0, later_in x xs rest.0 rest.1, rest.2)
+  ]
+
+  -- what is made of each that a list contains stands in what is made of the list
+  pub is_made : (f : X → Y) (xs : List X) (x : X) → Contains xs x → Contains (map f xs) (f x)
+  is_made f [] x within = absurd (Contains-nil x within)
+  is_made f (y ∷ ys) x within = elim (in_cases y ys x within) [
+    | inl here ↦ subst (λ z. Contains (map f (y ∷ ys)) (f z)) here (first_in (f y) (map f ys))
+    | inr there ↦ later_in (f y) (map f ys) (f x) (is_made f ys x there)
   ]
 
   -- what a map with gaps gave it gave at an element

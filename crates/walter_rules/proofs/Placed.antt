@@ -1,5 +1,5 @@
 -- Records, each with the format in force at its place.
-use Rattle.std.proofs.Common.{◌≡◌, List, [], ◌∷◌, ◌++◌, Some, refl, ap, sym, ◌∙◌}
+use Rattle.std.proofs.Common.{◌≡◌, List, [], ◌∷◌, ◌++◌, Some, refl, ap, ◌∙◌}
 use Rattle.walter_base.specs.declared.catalog.Catalog.{Catalog}
 use Rattle.walter_base.specs.declared.format.Format.{Format}
 use Rattle.walter_base.specs.declared.format.Format.TheVariants.{First, Second}
@@ -7,7 +7,7 @@ use Rattle.walter_base.specs.declared.message.Record.{Record}
 use Rattle.walter_base.specs.declared.message.Record.TheVariants.{Boot, Own, Got, Seen, Prepared, Released, SlowBegin, SlowEnd, Marks, Format as FormatRecord}
 use Rattle.walter_base.specs.declared.names.SiteId.{SiteId}
 use Rattle.walter_rules.specs.Knowledge.{Knowledge, fresh}
-use Rattle.walter_rules.specs.Layouts.{Placed, in_force, placed, format_at}
+use Rattle.walter_rules.specs.Layouts.{in_force, placed, format_at}
 use Rattle.walter_rules.specs.Learning.{format_behind, recorded}
 use Rattle.walter_rules.specs.Records.{replayed}
 

@@ -1,13 +1,17 @@
 -- What the tests of the rules tell where they are true.
-use Rattle.std.proofs.Common.{◌≡◌, ◌≢◌, ℕ, ◌+◌, ◌<◌, true, false, not, ◌&&◌, nat_lt, nat_le, nat_eq, List, map, length, slice_index, Option, Some, None, ap, sym, ◌∙◌, subst, arith, inl, inr}
+use Rattle.std.proofs.Common.{◌≡◌, ◌≢◌, ℕ, ◌+◌, ◌<◌, Bool, true, false, not, if◌then◌else◌, refl, ◌&&◌, nat_lt, nat_le, nat_eq, List, map, length, slice_index, Option, Some, None, ap, sym, ◌∙◌, subst, arith, inl, inr, ◌⊎◌, Result}
 use Rattle.std.specs.Prelude.{Contains}
 use Rattle.std.specs.FinMap.{get}
 use Rattle.std.specs.List.{list_all, range_with_len}
 use Rattle.std.specs.Option.{option_map_or}
-use Rattle.std.proofs.lemmas.Bool.{cases_lt, and_parts, ltb-true, leb-true, le-leb, eqb-true, not-true, both_ways}
+use Rattle.std.proofs.lemmas.Bool.{cases_lt, cases_Bool, and_parts, ltb-true, ltb-false, leb-true, le-leb, eqb-true, not-true, both_ways}
 use Rattle.std.proofs.lemmas.List.{get_or_past}
 use Rattle.walter_base.specs.declared.catalog.Catalog.{Catalog}
 use Rattle.walter_base.specs.declared.containers.Container.{Container}
+use Rattle.walter_base.specs.declared.message.BadFrame.{BadFrame}
+use Rattle.walter_base.specs.declared.message.Refusal.{Refusal}
+use Rattle.walter_base.specs.declared.message.Refusal.TheVariants.{Behind}
+use Rattle.walter_base.specs.declared.message.Request.{Request}
 use Rattle.walter_base.specs.declared.names.Kind.{Kind}
 use Rattle.walter_base.specs.declared.names.Kind.TheVariants.{Regular}
 use Rattle.walter_base.specs.declared.names.ObjId.{ObjId}
@@ -15,22 +19,24 @@ use Rattle.walter_base.specs.declared.names.SiteId.{SiteId}
 use Rattle.walter_base.specs.declared.names.Tid.{Tid}
 use Rattle.walter_base.specs.declared.names.Version.{Version}
 use Rattle.walter_base.specs.declared.transaction.Conflict.{Conflict}
-use Rattle.walter_base.specs.declared.transaction.Conflict.TheVariants.{Dead}
+use Rattle.walter_base.specs.declared.transaction.Conflict.TheVariants.{Dead, Moving}
 use Rattle.walter_base.specs.declared.transaction.Tx.{Tx}
 use Rattle.walter_base.specs.declared.update.Update.{Update}
 use Rattle.walter_base.specs.Conflicts.{first_outside, conflict_over}
 use Rattle.walter_base.specs.Names.{same_site}
 use Rattle.walter_base.specs.Vectors.{entry_at}
 use Rattle.walter_base.proofs.NameTests.{same_site-true, same_site_refl}
-use Rattle.walter_rules.specs.Allowed.{AreClear, Covers, IsUnseen, HaveSaidYes, IsNextCommit, AreLockable}
-use Rattle.walter_rules.specs.Conflicts.{conflict_at, first_conflict}
-use Rattle.walter_rules.specs.Declarations.{is_of_kind, same_kind, are_declared, are_lockable}
+use Rattle.walter_rules.specs.Allowed.{AreClear, Covers, IsUnseen, HaveSaidYes, IsNextCommit, AreLockable, IsUpdateCall, of_write, of_add, of_del, of_friend, of_unfriend}
+use Rattle.walter_rules.specs.Calls.{behind_at, first_behind}
+use Rattle.walter_rules.specs.Conflicts.{conflict_at, first_conflict, conflict_there, first_there}
+use Rattle.walter_rules.specs.Declarations.{is_of_kind, same_kind, are_declared, are_regular}
 use Rattle.walter_rules.specs.Deliveries.{is_peer, covers, accepts, is_unseen}
-use Rattle.walter_rules.specs.Knowledge.{Knowledge, preferred, site_at}
-use Rattle.walter_rules.specs.Log.{row, version_of, seq_in, has_seen}
+use Rattle.walter_rules.specs.Knowledge.{Knowledge, preferred, site_at, sites}
+use Rattle.walter_rules.specs.Learning.{pair_asked, updates_asked}
+use Rattle.walter_rules.specs.Log.{row, version_of, has_seen}
 use Rattle.walter_rules.specs.Objects.{objects_at}
 use Rattle.walter_rules.specs.Slow.{has_site}
-use Rattle.walter_rules.proofs.Membership.{each_passes, one_passes, first_given, none_given, in_range}
+use Rattle.walter_rules.proofs.Membership.{each_passes, all_pass, one_passes, first_given, none_given, in_range, is_made}
 use Rattle.walter_rules.proofs.WrittenObjects.{in_objects_at}
 
 -- a site of a list
@@ -75,6 +81,35 @@ unseen_true K start tid is =
                 let clash : true ≡ false = sym seen ∙ none in cc)
           ];
     }
+
+-- a site of the catalog stands among its sites
+site_within : (catalog : Catalog) (k : SiteId) → k.0 < catalog.sites → Contains (sites catalog) k
+site_within catalog k below = is_made site_at (range_with_len 0 catalog.sites) k.0
+    (in_range 0 catalog.sites k.0 (omega arith) (omega (arith, below)))
+
+-- where a token of all sites sees more of none, so many are committed as it sees
+pub none_behind : (catalog : Catalog) (K : Knowledge) (token : List ℕ) → length token ≡ catalog.sites
+    → first_behind catalog K token ≡ None → Covers K.committed token
+none_behind catalog K token wide none k = elim (cases_lt k.0 catalog.sites) [
+  | inl within ↦ elim (cases_Bool (nat_lt (K.committed k) (entry_at token k))) [
+    | inl low ↦ absurd (let found = none_given (behind_at K token) (sites catalog) k none
+        (site_within catalog k within) in
+        let is : behind_at K token k ≡ Some (Behind k (K.committed k)) = rw low refl in
+        let clash : ◌≡◌ {A = Option Refusal} None (Some (Behind k (K.committed k))) = sym found ∙ is in cc)
+    | inr high ↦ ltb-false (K.committed k) (entry_at token k) high
+  ]
+  | inr past ↦ let none_there : slice_index token k.0 ≡ 0 = get_or_past token k.0 0 (omega (arith, past, wide)) in
+      omega (arith, none_there)
+]
+
+-- the updates that a call asks for
+pub asked_is : (friends : Option ℕ) (call : Result Request BadFrame) (updates : List Update)
+    → IsUpdateCall friends call updates → updates_asked friends call ≡ updates
+asked_is friends call updates (of_write oid bytes) = refl
+asked_is friends call updates (of_add oid id free) = refl
+asked_is friends call updates (of_del oid id free) = refl
+asked_is friends call updates (of_friend list a b at) = ap (λ o. pair_asked o a b true) at
+asked_is friends call updates (of_unfriend list a b at) = ap (λ o. pair_asked o a b false) at
 
 -- a commit that is accepted is the next of its site
 pub accepted : (catalog : Catalog) (K : Knowledge) (j : SiteId) (seq : ℕ) (tx : Tx)
@@ -135,16 +170,57 @@ first_alive K snapshot objects conflict first =
     let one = one_meets K snapshot objects conflict first in
     alive_over one.0 (first_outside snapshot (map version_of (row one.0 K.log))) (K.owner one.0) conflict one.2
 
--- the objects of a PREPARE that may be locked, where none meets a conflict
+-- what another site's PREPARE meets on an object is what a commit here would meet, where it is preferred here
+there_cases : (catalog : Catalog) (i : SiteId) (K : Knowledge) (snapshot : List ℕ) (oid : ObjId) (test : Bool)
+    → same_site (preferred catalog K oid) i ≡ test → (found : Option Conflict)
+    → (if test then conflict_at K snapshot oid else Some (Moving oid)) ≡ found
+    → ((preferred catalog K oid ≡ i) × (conflict_at K snapshot oid ≡ found))
+    ⊎ ((preferred catalog K oid ≢ i) × (Some (Moving oid) ≡ found))
+there_cases catalog i K snapshot oid true is found h = inl (same_site-true (preferred catalog K oid) i is, h)
+there_cases catalog i K snapshot oid false is found h = inr (other_site (preferred catalog K oid) i is, h)
+
+pub there_meets : (catalog : Catalog) (i : SiteId) (K : Knowledge) (snapshot : List ℕ) (oid : ObjId)
+    (found : Option Conflict) → conflict_there catalog i K snapshot oid ≡ found
+    → ((preferred catalog K oid ≡ i) × (conflict_at K snapshot oid ≡ found))
+    ⊎ ((preferred catalog K oid ≢ i) × (Some (Moving oid) ≡ found))
+there_meets catalog i K snapshot oid found h =
+    there_cases catalog i K snapshot oid (same_site (preferred catalog K oid) i) refl found h
+
+-- a first conflict of a PREPARE is that of some object of it, and doesn't say that a commit is over
+pub one_meets_there : (catalog : Catalog) (i : SiteId) (K : Knowledge) (snapshot : List ℕ) (objects : List ObjId)
+    (conflict : Conflict) → first_there catalog i K snapshot objects ≡ Some conflict
+    → (oid : ObjId) × Contains objects oid × (conflict_there catalog i K snapshot oid ≡ Some conflict)
+one_meets_there catalog i K snapshot objects conflict first =
+    first_given (conflict_there catalog i K snapshot) objects conflict first
+
+pub there_alive : (catalog : Catalog) (i : SiteId) (K : Knowledge) (snapshot : List ℕ) (objects : List ObjId)
+    (conflict : Conflict) → first_there catalog i K snapshot objects ≡ Some conflict → conflict ≢ Dead
+there_alive catalog i K snapshot objects conflict first =
+    let one = one_meets_there catalog i K snapshot objects conflict first in
+    elim (there_meets catalog i K snapshot one.0 (Some conflict) one.2) [
+      | inl here ↦ alive_over one.0 (first_outside snapshot (map version_of (row one.0 K.log))) (K.owner one.0) conflict
+          here.1
+      | inr gone ↦ λ dead. let e = gone.1 in cc
+    ]
+
+-- the objects of a PREPARE may be locked, where all are regular and none meets a conflict
 pub lockable : (catalog : Catalog) (i : SiteId) (K : Knowledge) (start : List ℕ) (objects : List ObjId)
-    → are_lockable catalog K i objects ≡ true
-    → first_conflict K start objects ≡ None → AreLockable catalog i K start objects
-lockable catalog i K start objects regular none = record {
-  here = λ oid within.
-      let passes = each_passes (λ o. is_of_kind catalog Regular o && same_site
-      (preferred catalog K o) i) objects oid regular within in
-      same_site-true (preferred catalog K oid) i
-      (and_parts (is_of_kind catalog Regular oid) (same_site (preferred catalog K oid) i) passes).1;
-  regular = regular;
-  clear = none_meets K start objects none;
-}
+    → are_regular catalog objects ≡ true
+    → first_there catalog i K start objects ≡ None → AreLockable catalog i K start objects
+lockable catalog i K start objects regular none =
+    let free : (oid : ObjId) → Contains objects oid
+    → (preferred catalog K oid ≡ i) × (conflict_at K start oid ≡ None) = λ oid within.
+    elim (there_meets catalog i K start oid None
+    (none_given (conflict_there catalog i K start) objects oid none within)) [
+      | inl here ↦ here
+      | inr gone ↦ absurd (let e = gone.1 in cc)
+    ] in
+    record {
+      here = λ oid within. (free oid within).0;
+      regular = all_pass (λ oid. is_of_kind catalog Regular oid && same_site (preferred catalog K oid) i) objects
+          (λ oid within.
+          let kind = each_passes (is_of_kind catalog Regular) objects oid regular within in
+          let at = (free oid within).0 in
+          rw (kind, at) (same_site_refl i));
+      clear = λ oid within. (free oid within).1;
+    }

@@ -115,11 +115,11 @@ module _ (catalog : Catalog) (i : SiteId) (before : Knowledge) (event : Event) (
 module _ (catalog : Catalog) (i : SiteId) (event : Event) (K : Knowledge) where
   -- a PREPARE that waits for its vote is so
   waits_true : (to : SiteId) (n : ℕ) (s : Slow) → K.slow n ≡ s
-      → AreTrueTo catalog i K event K to (prepare_if_waits catalog K to n s)
+      → AreTrueTo catalog i K event K to (prepare_if_waits K to n s)
   waits_true to n (Undecided tx asked) is =
       where_to catalog i K event K to (has_site to asked && not (has_site to (K.said_yes n)))
-      (prepare_of catalog K n tx to ∷ []) (λ waits.
-      one_to catalog i K event K to (prepare_of catalog K n tx to) (tx, asked, is, refl, refl, refl))
+      (prepare_of (K.wanted n) n tx to ∷ []) (λ waits.
+      one_to catalog i K event K to (prepare_of (K.wanted n) n tx to) (tx, asked, is, refl, refl, refl))
   waits_true to n Unused is = nothing_to catalog i K event K to
   waits_true to n (Dropped tx asked) is = nothing_to catalog i K event K to
   waits_true to n (Decided tx) is = nothing_to catalog i K event K to
@@ -137,9 +137,9 @@ module _ (catalog : Catalog) (i : SiteId) (event : Event) (K : Knowledge) where
 
   -- and so are the PREPAREs of all slow commits
   all_waits : (to : SiteId) (numbers : List ℕ)
-      → AreTrueTo catalog i K event K to (flat_map (λ n. prepare_if_waits catalog K to n (K.slow n)) numbers)
+      → AreTrueTo catalog i K event K to (flat_map (λ n. prepare_if_waits K to n (K.slow n)) numbers)
   all_waits to numbers packet within =
-      let from = Contains-flat_map_from (λ n. prepare_if_waits catalog K to n (K.slow n)) numbers packet within in
+      let from = Contains-flat_map_from (λ n. prepare_if_waits K to n (K.slow n)) numbers packet within in
       waits_true to from.0 (K.slow from.0) refl packet from.2
 
   -- and their RELEASEs

@@ -6,6 +6,7 @@ use Rattle.std.proofs.lemmas.Bool.{cond_both}
 use Rattle.std.proofs.lemmas.List.Elements.{Contains-get_or, Contains-append_cases}
 use Rattle.std.proofs.lemmas.List.Kept.{AllPairs-cons, AllPairs-filter}
 use Rattle.walter_base.specs.declared.catalog.Catalog.{Catalog}
+use Rattle.walter_base.specs.declared.names.ObjId.{ObjId}
 use Rattle.walter_base.specs.declared.names.SiteId.{SiteId}
 use Rattle.walter_base.specs.declared.packet.Packet.{Packet}
 use Rattle.walter_base.specs.declared.packet.Packet.TheVariants.{Propagate, Ack, Dsmark, Visible, Release}
@@ -253,14 +254,14 @@ where_numbered kind n test one packet is within =
     (λ there here. absurd (Contains-nil packet here)) within
 
 -- a PREPARE that waits for its vote has the number of its slow commit
-waits_numbered : (catalog : Catalog) (K : Knowledge) (k : SiteId) (n : ℕ) (s : Slow) (packet : Packet)
-    → Contains (prepare_if_waits catalog K k n s) packet → IsNumbered 5 n packet
-waits_numbered catalog K k n (Undecided tx asked) packet within =
-    where_numbered 5 n (has_site k asked && not (has_site k (K.said_yes n))) (prepare_of catalog K n tx k) packet
+waits_numbered : (K : Knowledge) (k : SiteId) (n : ℕ) (s : Slow) (packet : Packet)
+    → Contains (prepare_if_waits K k n s) packet → IsNumbered 5 n packet
+waits_numbered K k n (Undecided tx asked) packet within =
+    where_numbered 5 n (has_site k asked && not (has_site k (K.said_yes n))) (prepare_of (K.wanted n) n tx k) packet
     (refl, refl) within
-waits_numbered catalog K k n Unused packet within = absurd (Contains-nil packet within)
-waits_numbered catalog K k n (Dropped tx asked) packet within = absurd (Contains-nil packet within)
-waits_numbered catalog K k n (Decided tx) packet within = absurd (Contains-nil packet within)
+waits_numbered K k n Unused packet within = absurd (Contains-nil packet within)
+waits_numbered K k n (Dropped tx asked) packet within = absurd (Contains-nil packet within)
+waits_numbered K k n (Decided tx) packet within = absurd (Contains-nil packet within)
 
 -- and so has a RELEASE that is owed
 owed_numbered : (K : Knowledge) (k : SiteId) (n : ℕ) (s : Slow) (packet : Packet)
@@ -304,20 +305,20 @@ module _ (catalog : Catalog) (i : SiteId) where
       (where_block 7 (has_site k asked) (Release n ∷ []) (one_block (Release n))).order)
 
   -- what a slow commit asks
-  pub prepares_in_order : (K : Knowledge) (updates : List Update) (n : ℕ) (tx : Tx)
-      → AreInOrder (to_each (participants catalog K i updates) (λ k. prepare_of catalog K n tx k ∷ []))
-  prepares_in_order K updates n tx =
-      each_in_order (participants catalog K i updates) (λ k. prepare_of catalog K n tx k ∷ [])
+  pub prepares_in_order : (K : Knowledge) (updates : List Update) (wanted : SiteId → List ObjId) (n : ℕ) (tx : Tx)
+      → AreInOrder (to_each (participants catalog K i updates) (λ k. prepare_of wanted n tx k ∷ []))
+  prepares_in_order K updates wanted n tx =
+      each_in_order (participants catalog K i updates) (λ k. prepare_of wanted n tx k ∷ [])
       (participants_rise catalog K i updates) (λ k.
-      pairs_one IsSaidFirst (prepare_of catalog K n tx k))
+      pairs_one IsSaidFirst (prepare_of wanted n tx k))
 
   -- what is said again
   again_order : (K : Knowledge) (k : SiteId) → AreSaidInOrder (said_again catalog i K k)
   again_order K k =
       let numbers : List ℕ = from_to 1 K.last in
       let mark : ℕ = durable_mark catalog i K in
-      let waits = numbered_block 5 (λ n. prepare_if_waits catalog K k n (K.slow n))
-      (λ n. waits_numbered catalog K k n (K.slow n)) numbers (range_rises _ _) in
+      let waits = numbered_block 5 (λ n. prepare_if_waits K k n (K.slow n))
+      (λ n. waits_numbered K k n (K.slow n)) numbers (range_rises _ _) in
       let owed = numbered_block 7 (λ n. release_if_owed K k n (K.slow n))
       (λ n. owed_numbered K k n (K.slow n)) numbers (range_rises _ _) in
       (block_before 1 2 _ _ (omega arith) (propagates_block i K (in_window i K k) (range_rises _ _))

@@ -16,7 +16,7 @@ use Rattle.walter_rules.specs.declared.event.Input.{Input}
 use Rattle.walter_rules.specs.declared.event.Input.TheVariants.{Call, Deliver, Advance, Tick, Upgrade}
 use Rattle.walter_rules.specs.declared.outcome.Outcome.{Outcome}
 use Rattle.walter_rules.specs.declared.outcome.Outcome.TheVariants.{Replied, Passed, Down}
-use Rattle.walter_rules.specs.Allowed.{IsKind, is_refused, starts, does, reads, ends, aborts, conflicts, commits, begins, waits, tells_version, tells_cause, levels_own, is_deciding, is_running, denies, passes, receives, hears_ack, hears_durable, hears_visible, marks_durable, marks_visible, prepares, hears_yes, decides, gives_up, releases, hears_released, sees, upgrades, stops, is_down, boots, IsReadCall, of_value, of_counts, of_count}
+use Rattle.walter_rules.specs.Allowed.{IsKind, is_refused, starts, does, reads, ends, aborts, conflicts, commits, begins, moves, waits, tells_version, tells_cause, levels_own, is_deciding, is_running, denies, passes, receives, hears_ack, hears_durable, hears_visible, marks_durable, marks_visible, prepares, hears_yes, decides, gives_up, releases, hears_released, sees, upgrades, stops, is_down, boots, IsReadCall, of_value, of_counts, of_count, tells_token}
 use Rattle.walter_rules.specs.Knowledge.{Knowledge}
 use Rattle.walter_rules.specs.Learning.{recorded}
 use Rattle.walter_rules.specs.Records.{CanAllFollow, replayed}
@@ -52,7 +52,7 @@ module _ (catalog : Catalog) (i : SiteId) (S : Standing) where
   kind_stays : (event : Event) (wrote : Option Record) (outcome : Outcome) → IsGiven event
       → IsKind catalog i S event wrote outcome → goes_down event outcome ≡ false
   kind_stays event wrote outcome is (is_refused client call refusal) = refl
-  kind_stays event wrote outcome is (starts client up none) = refl
+  kind_stays event wrote outcome is (starts client call up none asks) = refl
   kind_stays event wrote outcome is (does client call s update open_ asks declared) = refl
   kind_stays event wrote outcome is (reads client call s reply open_ read) = read_stays client call reply _ read
   kind_stays event wrote outcome is (ends client s open_ none) = refl
@@ -60,6 +60,7 @@ module _ (catalog : Catalog) (i : SiteId) (S : Standing) where
   kind_stays event wrote outcome is (conflicts client s conflict open_ first) = refl
   kind_stays event wrote outcome is (commits client s open_ some local clear) = refl
   kind_stays event wrote outcome is (begins client s open_ some clear) = refl
+  kind_stays event wrote outcome is (moves client container to may) = refl
   kind_stays event wrote outcome is (waits client s tx asked begun_ undecided) = refl
   kind_stays event wrote outcome is (tells_version client s tx seq begun_ decided at) = refl
   kind_stays event wrote outcome is (tells_cause client s tx asked conflict begun_ dropped said) = refl
@@ -67,6 +68,7 @@ module _ (catalog : Catalog) (i : SiteId) (S : Standing) where
   kind_stays event wrote outcome is (is_deciding client tid up) = refl
   kind_stays event wrote outcome is (is_running client tid up) = refl
   kind_stays event wrote outcome is (denies client tid up here issued none undecided open_) = refl
+  kind_stays event wrote outcome is (tells_token client up) = refl
   kind_stays event wrote outcome is (passes e) = passes_by e
   kind_stays event wrote outcome is (receives j number seq tx from next) = refl
   kind_stays event wrote outcome is (hears_ack j number got from most) = refl

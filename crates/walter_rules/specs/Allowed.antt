@@ -9,9 +9,9 @@ use Rattle.walter_base.specs.declared.message.Record.{Record}
 use Rattle.walter_base.specs.declared.message.Record.TheVariants.{Boot, Own, Got, Seen, Prepared, Released, SlowBegin, SlowEnd, Marks, Format as FormatRecord}
 use Rattle.walter_base.specs.declared.message.Refusal.{Refusal}
 use Rattle.walter_base.specs.declared.message.Reply.{Reply}
-use Rattle.walter_base.specs.declared.message.Reply.TheVariants.{Started, Value, Done, Set, Count, Committed, Aborted, Deciding, Level, Ended, Refused}
+use Rattle.walter_base.specs.declared.message.Reply.TheVariants.{Started, Value, Done, Set, Count, Committed, Aborted, Deciding, Level, Ended, Token as TokenIs, Refused}
 use Rattle.walter_base.specs.declared.message.Request.{Request}
-use Rattle.walter_base.specs.declared.message.Request.TheVariants.{Start, Read, Write, SetAdd, SetDel, SetRead, SetReadId, Commit, Abort, Level as LevelAsked}
+use Rattle.walter_base.specs.declared.message.Request.TheVariants.{Start, Read, Write, SetAdd, SetDel, SetRead, SetReadId, Commit, Abort, Level as LevelAsked, Handover, StartAt, Token, Befriend, Unfriend}
 use Rattle.walter_base.specs.declared.names.ObjId.{ObjId}
 use Rattle.walter_base.specs.declared.names.SiteId.{SiteId}
 use Rattle.walter_base.specs.declared.names.Tid.{Tid}
@@ -20,10 +20,11 @@ use Rattle.walter_base.specs.declared.packet.Packet.{Packet}
 use Rattle.walter_base.specs.declared.packet.Packet.TheVariants.{Propagate, Ack, Dsmark, Visible, Prepare, Vote, Release, Released as ReleasedSaid}
 use Rattle.walter_base.specs.declared.transaction.Cause.TheVariants.{Asked}
 use Rattle.walter_base.specs.declared.transaction.Conflict.{Conflict}
-use Rattle.walter_base.specs.declared.transaction.Conflict.TheVariants.{Modified, Locked as LockedThere, Dead}
+use Rattle.walter_base.specs.declared.transaction.Conflict.TheVariants.{Modified, Locked as LockedThere, Dead, Moving}
 use Rattle.walter_base.specs.declared.transaction.Tx.{Tx}
 use Rattle.walter_base.specs.declared.update.Update.{Update}
 use Rattle.walter_base.specs.declared.update.Update.TheVariants.{Write as WriteOf, Add, Del}
+use Rattle.walter_base.specs.Friends.{pair, both}
 use Rattle.walter_base.specs.Values.{value_of, count_of, counts_of, write_set}
 use Rattle.walter_base.specs.Vectors.{entry_at}
 use Rattle.walter_rules.specs.declared.event.Event.{Event}
@@ -31,24 +32,30 @@ use Rattle.walter_rules.specs.declared.event.Event.TheVariants.{Given, Stop, Res
 use Rattle.walter_rules.specs.declared.event.Input.TheVariants.{Call, Deliver, Advance, Upgrade}
 use Rattle.walter_rules.specs.declared.outcome.Outcome.{Outcome}
 use Rattle.walter_rules.specs.declared.outcome.Outcome.TheVariants.{Replied, Taken, Passed, Down}
-use Rattle.walter_rules.specs.Calls.{Expected, next_tid, next_seq, next_slow, own_version, read_updates, seq_of, level_of_own, is_issued, is_undecided, is_open}
-use Rattle.walter_rules.specs.Conflicts.{conflict_at, first_conflict, cause_of}
-use Rattle.walter_rules.specs.Declarations.{is_declared, are_declared, are_lockable}
+use Rattle.walter_rules.specs.Calls.{Expected, move_of, next_tid, next_seq, next_slow, own_version, read_updates, seq_of, level_of_own, is_issued, is_undecided, is_open}
+use Rattle.walter_rules.specs.Conflicts.{conflict_at, first_conflict, first_there, cause_of}
+use Rattle.walter_rules.specs.Declarations.{is_known, are_declared, are_lockable}
 use Rattle.walter_rules.specs.Deliveries.{is_unseen}
-use Rattle.walter_rules.specs.Knowledge.{Knowledge, preferred, session_of}
+use Rattle.walter_rules.specs.Knowledge.{Knowledge, preferred, preferred_in, session_of, vector_of}
 use Rattle.walter_rules.specs.Learning.{after, heard}
 use Rattle.walter_rules.specs.Log.{commit_at, seq_in}
 use Rattle.walter_rules.specs.Marks.{durable_mark, visible_mark}
-use Rattle.walter_rules.specs.Objects.{objects_at}
+use Rattle.walter_rules.specs.Objects.{objects_at, busy}
 use Rattle.walter_rules.specs.Sessions.{Session, with_slow, tx_of}
 use Rattle.walter_rules.specs.Slow.{Undecided, Dropped, Decided, Free, Locked, Over}
 use Rattle.walter_rules.specs.Standing.{Standing}
 
--- the update that a call asks for
-pub data IsUpdateCall : Result Request BadFrame → Update → Type 0 where
-  of_write : (oid : ObjId) (bytes : List ℕ) → IsUpdateCall (Ok (Write oid bytes)) (WriteOf oid bytes)
-  of_add : (oid : ObjId) (id : ℕ) → IsUpdateCall (Ok (SetAdd oid id)) (Add oid id)
-  of_del : (oid : ObjId) (id : ℕ) → IsUpdateCall (Ok (SetDel oid id)) (Del oid id)
+-- the updates that a call asks for; those of friend lists come in pairs
+pub data IsUpdateCall (friends : Option ℕ) : Result Request BadFrame → List Update → Type 0 where
+  of_write : (oid : ObjId) (bytes : List ℕ) → IsUpdateCall friends (Ok (Write oid bytes)) (WriteOf oid bytes ∷ [])
+  of_add : (oid : ObjId) (id : ℕ) → friends ≢ Some oid.container
+      → IsUpdateCall friends (Ok (SetAdd oid id)) (Add oid id ∷ [])
+  of_del : (oid : ObjId) (id : ℕ) → friends ≢ Some oid.container
+      → IsUpdateCall friends (Ok (SetDel oid id)) (Del oid id ∷ [])
+  of_friend : (list a b : ℕ) → friends ≡ Some list
+      → IsUpdateCall friends (Ok (Befriend a b)) (both (pair list a b true))
+  of_unfriend : (list a b : ℕ) → friends ≡ Some list
+      → IsUpdateCall friends (Ok (Unfriend a b)) (both (pair list a b false))
 
 -- what a call that reads is answered, by these updates
 pub data IsReadCall : Result Request BadFrame → Reply → List Update → Type 0 where
@@ -83,6 +90,11 @@ AreLocal catalog i K updates = (oid : ObjId) → Contains (write_set updates) oi
 abbrev pub Covers : (SiteId → ℕ) → List ℕ → Type 0
 Covers counts snapshot = (k : SiteId) → entry_at snapshot k ≤ counts k
 
+-- a call that starts a transaction; a token that one starts at sees no more than is committed here
+pub data IsStartCall (K : Knowledge) : Result Request BadFrame → Type 0 where
+  of_start : IsStartCall K (Ok Start)
+  of_token : (token : List ℕ) → Covers K.committed token → IsStartCall K (Ok (StartAt token))
+
 -- the snapshot doesn't see the transaction: the site has received all that it sees, and that one not at all or under a
 -- number that it doesn't see
 pub record IsUnseen (K : Knowledge) (start : List ℕ) (tid : Tid) : Type 0 where
@@ -93,6 +105,7 @@ pub record IsUnseen (K : Knowledge) (start : List ℕ) (tid : Tid) : Type 0 wher
 abbrev pub IsOwnerUnseen : Knowledge → List ℕ → Conflict → Type 0
 IsOwnerUnseen K start (Modified oid version) = Unit {0}
 IsOwnerUnseen K start (LockedThere oid owner) = IsUnseen K start owner
+IsOwnerUnseen K start (Moving oid) = Unit {0}
 IsOwnerUnseen K start Dead = Unit {0}
 
 -- each site that was asked has said YES
@@ -123,6 +136,15 @@ pub record AreLockable (catalog : Catalog) (i : SiteId) (K : Knowledge) (start :
   pub regular : IsTrue (are_lockable catalog K i objects)
   pub clear : (oid : ObjId) → Contains objects oid → conflict_at K start oid ≡ None
 
+-- a container that is preferred here is handed to another site of the catalog, while no object of it is locked here
+pub record MayMove (catalog : Catalog) (i : SiteId) (S : Standing) (container : ℕ) (to : SiteId) : Type 0 where
+  pub up : S.up ≡ true
+  pub known : IsTrue (is_known catalog container)
+  pub apart : to ≢ i
+  pub below : to.0 < catalog.sites
+  pub here : preferred_in catalog S.knows container ≡ i
+  pub free : busy S.knows container ≡ None
+
 -- a mark rose: the durable one by an ACK, or the visible one by a VISIBLE
 pub data HasRisen (catalog : Catalog) (i : SiteId) (before K : Knowledge) : Packet → Type 0 where
   by_ack : (got : ℕ) → durable_mark catalog i before < durable_mark catalog i K → HasRisen catalog i before K (Ack got)
@@ -133,14 +155,19 @@ pub data HasRisen (catalog : Catalog) (i : SiteId) (before K : Knowledge) : Pack
 pub data IsKind (catalog : Catalog) (i : SiteId) (S : Standing) : Event → Option Record → Outcome → Type 0 where
   is_refused : (client : ℕ) (call : Result Request BadFrame) (refusal : Refusal)
       → IsKind catalog i S (Given (Call client call)) None (Replied (Refused refusal))
-  starts : (client : ℕ) → S.up ≡ true → session_of S.knows client ≡ None
-      → IsKind catalog i S (Given (Call client (Ok Start))) None (Replied (Started (next_tid i S.knows)))
-  does : (client : ℕ) (call : Result Request BadFrame) (s : Session) (update : Update) → HasOpen S client s
-      → IsUpdateCall call update → IsTrue (is_declared catalog update)
+  starts : (client : ℕ) (call : Result Request BadFrame) → S.up ≡ true → session_of S.knows client ≡ None
+      → IsStartCall S.knows call
+      → IsKind catalog i S (Given (Call client call)) None (Replied (Started (next_tid i S.knows)))
+  does : (client : ℕ) (call : Result Request BadFrame) (s : Session) (updates : List Update) → HasOpen S client s
+      → IsUpdateCall catalog.friends call updates → IsTrue (are_declared catalog updates)
       → IsKind catalog i S (Given (Call client call)) None (Replied Done)
   reads : (client : ℕ) (call : Result Request BadFrame) (s : Session) (reply : Reply) → HasOpen S client s
       → IsReadCall call reply (read_updates S.knows s)
       → IsKind catalog i S (Given (Call client call)) None (Replied reply)
+  moves : (client container : ℕ) (to : SiteId) → MayMove catalog i S container to
+      → IsKind catalog i S (Given (Call client (Ok (Handover container to))))
+      (Some (Own (next_seq i S.knows) (move_of catalog i S.knows container to)))
+      (Replied (Committed (own_version i (next_seq i S.knows))))
   ends : (client : ℕ) (s : Session) → HasOpen S client s → s.updates ≡ []
       → IsKind catalog i S (Given (Call client (Ok Commit))) None (Replied Ended)
   aborts : (client : ℕ) (s : Session) → HasOpen S client s → IsKind catalog i S (Given (Call client (Ok Abort))) None
@@ -177,6 +204,8 @@ pub data IsKind (catalog : Catalog) (i : SiteId) (S : Standing) : Event → Opti
       → seq_of i S.knows tid ≡ None → is_undecided S.knows tid ≡ false
       → is_open tid S.knows.sessions ≡ false → IsKind catalog i S (Given (Call client (Ok (LevelAsked tid)))) None
       (Replied (Level NotCommitted))
+  tells_token : (client : ℕ) → S.up ≡ true → IsKind catalog i S (Given (Call client (Ok Token))) None
+      (Replied (TokenIs (vector_of catalog S.knows)))
   passes : (event : Event) → IsKind catalog i S event None Passed
   receives : (j : SiteId) (number seq : ℕ) (tx : Tx) → IsFromPeer catalog i S j → IsNextCommit catalog S.knows j seq tx
       → IsKind catalog i S (Given (Deliver j number (Propagate seq tx))) (Some (Got j seq tx)) Taken
@@ -224,18 +253,20 @@ pub data IsKind (catalog : Catalog) (i : SiteId) (S : Standing) : Event → Opti
   boots : S.up ≡ false → IsKind catalog i S Restart (Some (Boot (S.knows.epoch + 1))) Taken
 
 -- a NO is over the conflict that the PREPARE met that came, of which there is nothing here
-pub record IsMet (before : Knowledge) (event : Event) (to : SiteId) (n : ℕ) (conflict : Conflict) : Type 0 where
+pub record IsMet (catalog : Catalog) (i : SiteId) (before : Knowledge) (event : Event) (to : SiteId) (n : ℕ)
+    (conflict : Conflict) : Type 0 where
   pub free : before.part to n ≡ Free
   pub number : ℕ
   pub tid : Tid
   pub start : List ℕ
   pub objects : List ObjId
   pub came : event ≡ Given (Deliver to number (Prepare n tid start objects))
-  pub met : first_conflict before start objects ≡ Some conflict
+  pub met : first_there catalog i before start objects ≡ Some conflict
   pub unseen : IsOwnerUnseen before start conflict
 
 -- that it is to be asked again is said over a lock, of an owner that isn't known to be unseen
-pub record IsPutOff (before : Knowledge) (event : Event) (to : SiteId) (n : ℕ) : Type 0 where
+pub record IsPutOff (catalog : Catalog) (i : SiteId) (before : Knowledge) (event : Event) (to : SiteId)
+    (n : ℕ) : Type 0 where
   pub free : before.part to n ≡ Free
   pub number : ℕ
   pub tid : Tid
@@ -244,7 +275,7 @@ pub record IsPutOff (before : Knowledge) (event : Event) (to : SiteId) (n : ℕ)
   pub came : event ≡ Given (Deliver to number (Prepare n tid start objects))
   pub oid : ObjId
   pub owner : Tid
-  pub met : first_conflict before start objects ≡ Some (LockedThere oid owner)
+  pub met : first_there catalog i before start objects ≡ Some (LockedThere oid owner)
   pub unknown : is_unseen before start owner ≡ false
 
 -- what a packet says is so, by what the site knew before the event and what it knows after it
@@ -255,15 +286,17 @@ IsTrueOf catalog i before event K to (Dsmark durable) = durable ≡ durable_mark
 IsTrueOf catalog i before event K to (Visible committed) = committed ≤ K.committed to
 IsTrueOf catalog i before event K to (Prepare n tid start objects) =
     (tx : Tx) × (asked : List SiteId) × (K.slow n ≡ Undecided tx asked) × (tid ≡ tx.tid) × (start ≡ tx.start)
-    × (objects ≡ objects_at catalog K to tx.updates)
+    × (objects ≡ K.wanted n to)
 IsTrueOf catalog i before event K to (Vote n Yes) = (tid : Tid) × (objects : List ObjId)
     × (K.part to n ≡ Locked tid objects)
 IsTrueOf catalog i before event K to (Vote n (No (Modified oid version))) =
-    IsMet before event to n (Modified oid version)
+    IsMet catalog i before event to n (Modified oid version)
 IsTrueOf catalog i before event K to (Vote n (No (LockedThere oid owner))) =
-    IsMet before event to n (LockedThere oid owner)
+    IsMet catalog i before event to n (LockedThere oid owner)
+IsTrueOf catalog i before event K to (Vote n (No (Moving oid))) =
+    IsMet catalog i before event to n (Moving oid)
 IsTrueOf catalog i before event K to (Vote n (No Dead)) = K.part to n ≡ Over
-IsTrueOf catalog i before event K to (Vote n Later) = IsPutOff before event to n
+IsTrueOf catalog i before event K to (Vote n Later) = IsPutOff catalog i before event to n
 IsTrueOf catalog i before event K to (Release n) = (tx : Tx) × (asked : List SiteId) × (K.slow n ≡ Dropped tx asked)
 IsTrueOf catalog i before event K to (ReleasedSaid n) = K.part to n ≡ Over
 

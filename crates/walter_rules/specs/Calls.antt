@@ -10,11 +10,11 @@ use Rattle.walter_base.specs.declared.message.Level.TheVariants.{NotCommitted, R
 use Rattle.walter_base.specs.declared.message.Record.{Record}
 use Rattle.walter_base.specs.declared.message.Record.TheVariants.{Own, SlowBegin}
 use Rattle.walter_base.specs.declared.message.Refusal.{Refusal}
-use Rattle.walter_base.specs.declared.message.Refusal.TheVariants.{UnknownContainer, WrongKind, TxFull, TooLong, NoTx, TxOpen, Gone, BadFrame, Down as IsDown, SetTooWide, SessionsFull, WrongSite, NotIssued}
+use Rattle.walter_base.specs.declared.message.Refusal.TheVariants.{UnknownContainer, WrongKind, TxFull, TooLong, NoTx, TxOpen, Gone, BadFrame, Down as IsDown, SetTooWide, SessionsFull, WrongSite, NotIssued, NotHolder, Busy, BadTarget, Behind, BadVector, Reserved, SamePerson, NoFriends}
 use Rattle.walter_base.specs.declared.message.Reply.{Reply}
-use Rattle.walter_base.specs.declared.message.Reply.TheVariants.{Started, Value, Done, Set, Count, Committed, Aborted, Deciding, Level, Ended, Refused}
+use Rattle.walter_base.specs.declared.message.Reply.TheVariants.{Started, Value, Done, Set, Count, Committed, Aborted, Deciding, Level, Ended, Token as TokenIs, Refused}
 use Rattle.walter_base.specs.declared.message.Request.{Request}
-use Rattle.walter_base.specs.declared.message.Request.TheVariants.{Start, Read, Write, SetAdd, SetDel, SetRead, SetReadId, Commit, Abort, Level as LevelAsked}
+use Rattle.walter_base.specs.declared.message.Request.TheVariants.{Start, Read, Write, SetAdd, SetDel, SetRead, SetReadId, Commit, Abort, Level as LevelAsked, Handover, StartAt, Token, Befriend, Unfriend}
 use Rattle.walter_base.specs.declared.names.Kind.{Kind}
 use Rattle.walter_base.specs.declared.names.Kind.TheVariants.{Regular, Cset}
 use Rattle.walter_base.specs.declared.names.ObjId.{ObjId}
@@ -23,19 +23,23 @@ use Rattle.walter_base.specs.declared.names.Tid.{Tid}
 use Rattle.walter_base.specs.declared.names.Version.{Version}
 use Rattle.walter_base.specs.declared.transaction.Cause.TheVariants.{Asked}
 use Rattle.walter_base.specs.declared.transaction.Conflict.{Conflict}
+use Rattle.walter_base.specs.declared.transaction.Tx.{Tx}
 use Rattle.walter_base.specs.declared.update.Update.{Update}
-use Rattle.walter_base.specs.declared.update.Update.TheVariants.{Write as WriteOf, Add, Del}
+use Rattle.walter_base.specs.Friends.{pair, both}
+use Rattle.walter_base.specs.declared.update.Update.TheVariants.{Write as WriteOf, Add, Del, Move}
 use Rattle.walter_base.specs.Names.{same_site, same_tid}
 use Rattle.walter_base.specs.Sizes.{size_of_updates}
 use Rattle.walter_base.specs.Values.{value_of, count_of, counts_of}
+use Rattle.walter_base.specs.Vectors.{entry_at}
 use Rattle.walter_rules.specs.declared.outcome.Outcome.{Outcome}
 use Rattle.walter_rules.specs.declared.outcome.Outcome.TheVariants.{Replied}
 use Rattle.walter_rules.specs.Conflicts.{first_conflict, cause_of}
-use Rattle.walter_rules.specs.Knowledge.{Knowledge, from_to}
+use Rattle.walter_rules.specs.Declarations.{is_known}
+use Rattle.walter_rules.specs.Knowledge.{Knowledge, preferred_in, vector_of, from_to, sites}
 use Rattle.walter_rules.specs.Learning.{recorded}
 use Rattle.walter_rules.specs.Log.{seq_in, sees}
 use Rattle.walter_rules.specs.Marks.{durable_mark, visible_mark}
-use Rattle.walter_rules.specs.Objects.{objects_at, are_local, participants}
+use Rattle.walter_rules.specs.Objects.{objects_at, are_local, participants, busy}
 use Rattle.walter_rules.specs.Sending.{Send, to_each, own_sends, prepare_of}
 use Rattle.walter_rules.specs.Sessions.{Session, Sessions, with_slow, tx_of}
 use Rattle.walter_rules.specs.Slow.{Slow, Unused, Undecided, Dropped, Decided}
@@ -75,6 +79,26 @@ own_version i seq = record { site = i; seq = seq }
 abbrev pub starts_new : SiteId → Knowledge → Expected
 starts_new i K = if nat_lt (length K.sessions) 256 then answers (Started (next_tid i K)) else refuses SessionsFull
 
+-- a token that sees more of a site than is committed here is refused, of the least such site
+abbrev pub behind_at : Knowledge → List ℕ → SiteId → Option Refusal
+behind_at K token k = if nat_lt (K.committed k) (entry_at token k) then Some (Behind k (K.committed k)) else None
+
+abbrev pub first_behind : Catalog → Knowledge → List ℕ → Option Refusal
+first_behind catalog K token = slice_get (filter_map (behind_at K token) (sites catalog)) 0
+
+abbrev pub starts_unless : SiteId → Knowledge → Option Refusal → Expected
+starts_unless i K None = answers (Started (next_tid i K))
+starts_unless i K (Some refusal) = refuses refusal
+
+abbrev pub starts_from : Catalog → SiteId → Knowledge → List ℕ → Expected
+starts_from catalog i K token =
+    if nat_eq (length token) catalog.sites then starts_unless i K (first_behind catalog K token)
+    else refuses BadVector
+
+abbrev pub starts_new_at : Catalog → SiteId → Knowledge → List ℕ → Expected
+starts_new_at catalog i K token =
+    if nat_lt (length K.sessions) 256 then starts_from catalog i K token else refuses SessionsFull
+
 -- a transaction whose objects are all preferred here commits, under the next number
 abbrev pub commits_fast : Catalog → SiteId → Knowledge → Session → Expected
 commits_fast catalog i K s = record {
@@ -89,7 +113,8 @@ begins_slow catalog i K s = record {
   wrote = Some (SlowBegin (next_slow K) (tx_of (with_slow (next_slow K) s)));
   outcome = Replied (Deciding s.tid);
   sends = to_each (participants catalog K i s.updates)
-      (λ k. prepare_of catalog K (next_slow K) (tx_of (with_slow (next_slow K) s)) k ∷ []);
+      (λ k. prepare_of (λ p. objects_at catalog K p s.updates) (next_slow K)
+      (tx_of (with_slow (next_slow K) s)) k ∷ []);
 }
 
 abbrev pub if_local : Bool → Catalog → SiteId → Knowledge → Session → Expected
@@ -155,6 +180,28 @@ has_place updates update = nat_lt (length updates) 256 && nat_le (size_of_update
 abbrev pub updates_with : Session → Update → Expected
 updates_with s update = if has_place s.updates update then answers Done else refuses TxFull
 
+-- a friend list is changed by the calls for friends alone
+abbrev pub if_unreserved : Option ℕ → ObjId → Expected → Expected
+if_unreserved None oid expected = expected
+if_unreserved (Some friends) oid expected = if nat_eq friends oid.container then refuses Reserved else expected
+
+-- whether a transaction has places for these updates together
+abbrev pub has_places : List Update → List Update → Bool
+has_places updates more =
+    nat_le (length (updates ++ more)) 256 && nat_le (size_of_updates (updates ++ more)) 60000
+
+-- both updates of a pair go in, or neither
+abbrev pub updates_both : Session → Update × Update → Expected
+updates_both s two = if has_places s.updates (both two) then answers Done else refuses TxFull
+
+-- two persons become friends, or are friends no more. The container of the friend lists is one of sets, where the
+-- catalog was built.
+abbrev pub befriends : Catalog → Session → Option ℕ → ℕ → ℕ → Bool → Expected
+befriends catalog s None a b gain = refuses NoFriends
+befriends catalog s (Some friends) a b gain =
+    if nat_eq a b then refuses SamePerson
+    else if_cset (get catalog.containers friends) (updates_both s (pair friends a b gain))
+
 -- a value has 4,096 bytes at most
 abbrev pub writes : Session → ObjId → List ℕ → Expected
 writes s oid bytes = if nat_lt 4096 (length bytes) then refuses TooLong else updates_with s (WriteOf oid bytes)
@@ -206,6 +253,49 @@ tells_level catalog i K tid =
     else if is_issued K tid then answers (Level (level_of catalog i K tid))
     else refuses NotIssued
 
+-- the transaction that hands a container over: it sees all that is committed here
+abbrev pub move_of : Catalog → SiteId → Knowledge → ℕ → SiteId → Tx
+move_of catalog i K container to = record {
+  tid = next_tid i K;
+  slow = 0;
+  start = vector_of catalog K;
+  updates = Move container to ∷ [];
+}
+
+abbrev pub moves : Catalog → SiteId → Knowledge → ℕ → SiteId → Expected
+moves catalog i K container to = record {
+  wrote = Some (Own (next_seq i K) (move_of catalog i K container to));
+  outcome = Replied (Committed (own_version i (next_seq i K)));
+  sends = own_sends catalog i K (recorded catalog i (Some (Own (next_seq i K) (move_of catalog i K container to))) K);
+}
+
+-- but not while an object of the container is locked here
+abbrev pub busy_with : ObjId → Option Tid → Expected
+busy_with oid None = refuses NoTx
+busy_with oid (Some owner) = refuses (Busy oid owner)
+
+abbrev pub if_free : Catalog → SiteId → Knowledge → ℕ → SiteId → Option ObjId → Expected
+if_free catalog i K container to None = moves catalog i K container to
+if_free catalog i K container to (Some oid) = busy_with oid (K.owner oid)
+
+-- by the site at which the container is preferred
+abbrev pub if_holder : Catalog → SiteId → Knowledge → ℕ → SiteId → Expected
+if_holder catalog i K container to =
+    if same_site (preferred_in catalog K container) i then if_free catalog i K container to (busy K container)
+    else refuses (NotHolder (preferred_in catalog K container))
+
+-- to another site of the catalog
+abbrev pub if_target : Catalog → SiteId → Knowledge → ℕ → SiteId → Expected
+if_target catalog i K container to =
+    if not (same_site to i) && nat_lt to.0 catalog.sites then if_holder catalog i K container to
+    else refuses BadTarget
+
+-- a container of the catalog is handed over
+abbrev pub hands_over : Catalog → SiteId → Knowledge → ℕ → SiteId → Expected
+hands_over catalog i K container to =
+    if is_known catalog container then if_target catalog i K container to
+    else refuses UnknownContainer
+
 -- the session where it is open
 abbrev pub if_open : ℕ → Session → Option Session
 if_open zero s = Some s
@@ -219,6 +309,10 @@ abbrev pub starts_for : SiteId → Knowledge → Option Session → Expected
 starts_for i K None = starts_new i K
 starts_for i K (Some s) = refuses TxOpen
 
+abbrev pub starts_at_for : Catalog → SiteId → Knowledge → List ℕ → Option Session → Expected
+starts_at_for catalog i K token None = starts_new_at catalog i K token
+starts_at_for catalog i K token (Some s) = refuses TxOpen
+
 abbrev pub commits_for : Catalog → SiteId → Knowledge → Option Session → Expected
 commits_for catalog i K None = refuses NoTx
 commits_for catalog i K (Some s) = commits_by catalog i K s s.slow
@@ -229,8 +323,9 @@ with_open None expected = refuses NoTx
 with_open (Some s) expected = expected s
 
 -- What a client is answered, by its session. The refusals come in one order: a bad frame; the want of a session, one
--- too many of the client's or of all; an unknown container, the wrong kind; too long a value, too full a transaction,
--- too wide a set; a wrong site, a name that wasn't given.
+-- too many of the client's or of all; an unknown container, the wrong kind, a friend list; no friend lists, one person
+-- for two; too long a value, too full a transaction,
+-- too wide a set; a wrong site, a name that wasn't given; a token of another number of sites, one that sees more.
 abbrev pub call_rule : Catalog → SiteId → Knowledge → Result Request Bad → Option Session → Expected
 call_rule catalog i K (Err bad) session = refuses (BadFrame bad.at)
 call_rule catalog i K (Ok Start) session = starts_for i K session
@@ -240,9 +335,13 @@ call_rule catalog i K (Ok (Read oid)) session =
 call_rule catalog i K (Ok (Write oid bytes)) session =
     with_open (open_in session) (λ s. if_regular (get catalog.containers oid.container) (writes s oid bytes))
 call_rule catalog i K (Ok (SetAdd oid id)) session =
-    with_open (open_in session) (λ s. if_cset (get catalog.containers oid.container) (updates_with s (Add oid id)))
+    with_open (open_in session)
+    (λ s. if_cset (get catalog.containers oid.container)
+    (if_unreserved catalog.friends oid (updates_with s (Add oid id))))
 call_rule catalog i K (Ok (SetDel oid id)) session =
-    with_open (open_in session) (λ s. if_cset (get catalog.containers oid.container) (updates_with s (Del oid id)))
+    with_open (open_in session)
+    (λ s. if_cset (get catalog.containers oid.container)
+    (if_unreserved catalog.friends oid (updates_with s (Del oid id))))
 call_rule catalog i K (Ok (SetRead oid)) session =
     with_open (open_in session)
     (λ s. if_cset (get catalog.containers oid.container) (shows (counts_of oid (read_updates K s))))
@@ -252,12 +351,22 @@ call_rule catalog i K (Ok (SetReadId oid id)) session =
 call_rule catalog i K (Ok Commit) session = commits_for catalog i K session
 call_rule catalog i K (Ok Abort) session = with_open (open_in session) (λ s. answers (Aborted Asked))
 call_rule catalog i K (Ok (LevelAsked tid)) session = tells_level catalog i K tid
+call_rule catalog i K (Ok (Handover container to)) session = hands_over catalog i K container to
+call_rule catalog i K (Ok (StartAt token)) session = starts_at_for catalog i K token session
+call_rule catalog i K (Ok Token) session = answers (TokenIs (vector_of catalog K))
+call_rule catalog i K (Ok (Befriend a b)) session =
+    with_open (open_in session) (λ s. befriends catalog s catalog.friends a b true)
+call_rule catalog i K (Ok (Unfriend a b)) session =
+    with_open (open_in session) (λ s. befriends catalog s catalog.friends a b false)
 
--- a client whose transaction was lost in a stop is told so in the place of an answer, but to a bad frame or a Level
+-- a client whose transaction was lost in a stop is told so in the place of an answer, but to a bad frame, a Level, a
+-- Handover or a Token
 abbrev pub if_told : Result Request Bad → Option Tid → Expected → Expected
 if_told call None expected = expected
 if_told (Err bad) (Some tid) expected = expected
 if_told (Ok (LevelAsked asked)) (Some tid) expected = expected
+if_told (Ok (Handover container to)) (Some tid) expected = expected
+if_told (Ok Token) (Some tid) expected = expected
 if_told (Ok Start) (Some tid) expected = refuses (Gone tid)
 if_told (Ok (Read oid)) (Some tid) expected = refuses (Gone tid)
 if_told (Ok (Write oid bytes)) (Some tid) expected = refuses (Gone tid)
@@ -267,6 +376,9 @@ if_told (Ok (SetRead oid)) (Some tid) expected = refuses (Gone tid)
 if_told (Ok (SetReadId oid id)) (Some tid) expected = refuses (Gone tid)
 if_told (Ok Commit) (Some tid) expected = refuses (Gone tid)
 if_told (Ok Abort) (Some tid) expected = refuses (Gone tid)
+if_told (Ok (StartAt token)) (Some tid) expected = refuses (Gone tid)
+if_told (Ok (Befriend a b)) (Some tid) expected = refuses (Gone tid)
+if_told (Ok (Unfriend a b)) (Some tid) expected = refuses (Gone tid)
 
 -- what a client is answered at a site that is down
 abbrev pub down_rule : Result Request Bad → Expected

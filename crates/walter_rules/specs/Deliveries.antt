@@ -14,13 +14,13 @@ use Rattle.walter_base.specs.declared.packet.Answer.TheVariants.{Yes, No, Later}
 use Rattle.walter_base.specs.declared.packet.Packet.{Packet}
 use Rattle.walter_base.specs.declared.packet.Packet.TheVariants.{Propagate, Ack, Dsmark, Visible, Prepare, Vote, Release, Released as ReleasedSaid}
 use Rattle.walter_base.specs.declared.transaction.Conflict.{Conflict}
-use Rattle.walter_base.specs.declared.transaction.Conflict.TheVariants.{Modified, Locked as LockedThere, Dead}
+use Rattle.walter_base.specs.declared.transaction.Conflict.TheVariants.{Modified, Locked as LockedThere, Dead, Moving}
 use Rattle.walter_base.specs.declared.transaction.Tx.{Tx}
 use Rattle.walter_base.specs.Names.{same_site}
 use Rattle.walter_rules.specs.declared.outcome.Outcome.TheVariants.{Taken, Passed}
 use Rattle.walter_rules.specs.Calls.{Expected, next_seq}
-use Rattle.walter_rules.specs.Conflicts.{first_conflict}
-use Rattle.walter_rules.specs.Declarations.{are_declared, are_lockable}
+use Rattle.walter_rules.specs.Conflicts.{first_there}
+use Rattle.walter_rules.specs.Declarations.{are_declared, are_regular}
 use Rattle.walter_rules.specs.Knowledge.{Knowledge, peers, site_at}
 use Rattle.walter_rules.specs.Learning.{recorded, risen}
 use Rattle.walter_rules.specs.Log.{commit_at, has_seen}
@@ -109,23 +109,24 @@ is_unseen K start tid = covers K.got start && not (has_seen start tid K.log)
 abbrev pub answer_over : Knowledge → List ℕ → Conflict → Answer
 answer_over K start (Modified oid version) = No (Modified oid version)
 answer_over K start (LockedThere oid owner) = if is_unseen K start owner then No (LockedThere oid owner) else Later
+answer_over K start (Moving oid) = No (Moving oid)
 answer_over K start Dead = No Dead
 
--- the objects of a PREPARE are locked where none of them meets a conflict
+-- the objects of a PREPARE are locked where all are preferred here and none of them meets a conflict
 abbrev pub prepares : Knowledge → SiteId → ℕ → Tid → List ℕ → List ObjId → Option Conflict → Expected
 prepares K j n tid start objects (Some conflict) = passes (back j (Vote n (answer_over K start conflict)))
 prepares K j n tid start objects None = takes (Some (Prepared j n tid objects)) (back j (Vote n Yes))
 
-abbrev pub prepares_by : Knowledge → SiteId → ℕ → Tid → List ℕ → List ObjId → Part → Expected
-prepares_by K j n tid start objects Over = passes (back j (Vote n (No Dead)))
-prepares_by K j n tid start objects (Locked owner locked) = passes (back j (Vote n Yes))
-prepares_by K j n tid start objects Free =
-    prepares K j n tid start objects (first_conflict K start objects)
+abbrev pub prepares_by : Catalog → SiteId → Knowledge → SiteId → ℕ → Tid → List ℕ → List ObjId → Part → Expected
+prepares_by catalog i K j n tid start objects Over = passes (back j (Vote n (No Dead)))
+prepares_by catalog i K j n tid start objects (Locked owner locked) = passes (back j (Vote n Yes))
+prepares_by catalog i K j n tid start objects Free =
+    prepares K j n tid start objects (first_there catalog i K start objects)
 
--- one of objects that aren't regular, or not preferred here, does nothing
-abbrev pub if_lockable : Bool → Knowledge → SiteId → ℕ → Tid → List ℕ → List ObjId → Expected
-if_lockable true K j n tid start objects = prepares_by K j n tid start objects (K.part j n)
-if_lockable false K j n tid start objects = passes []
+-- one of objects that aren't regular does nothing
+abbrev pub if_lockable : Bool → Catalog → SiteId → Knowledge → SiteId → ℕ → Tid → List ℕ → List ObjId → Expected
+if_lockable true catalog i K j n tid start objects = prepares_by catalog i K j n tid start objects (K.part j n)
+if_lockable false catalog i K j n tid start objects = passes []
 
 -- a YES commits where it is the last that is missing, and is kept where others are
 abbrev pub commits_if_all : Catalog → SiteId → Knowledge → Tx → Bool → Expected
@@ -150,6 +151,7 @@ abbrev pub votes : Catalog → SiteId → Knowledge → SiteId → ℕ → Tx �
 votes catalog i K p n tx asked Yes = if_missing (not (has_site p (K.said_yes n))) catalog i K p n tx asked
 votes catalog i K p n tx asked (No (Modified oid version)) = ends_slow catalog i n asked
 votes catalog i K p n tx asked (No (LockedThere oid owner)) = ends_slow catalog i n asked
+votes catalog i K p n tx asked (No (Moving oid)) = ends_slow catalog i n asked
 votes catalog i K p n tx asked (No Dead) = passes []
 votes catalog i K p n tx asked Later = passes []
 
@@ -184,7 +186,7 @@ packet_rule catalog i K j (Ack got) = if_acknowledged (is_news i K (K.acknowledg
 packet_rule catalog i K j (Dsmark durable) = if_greater (nat_lt (K.durable j) durable)
 packet_rule catalog i K j (Visible committed) = if_shown (is_news i K (K.visible j) committed) catalog i K j committed
 packet_rule catalog i K j (Prepare n tid start objects) =
-    if_lockable (are_lockable catalog K i objects) K j n tid start objects
+    if_lockable (are_regular catalog objects) catalog i K j n tid start objects
 packet_rule catalog i K j (Vote n answer) = votes_by catalog i K j n answer (K.slow n)
 packet_rule catalog i K j (Release n) = releases j n (K.part j n)
 packet_rule catalog i K j (ReleasedSaid n) = confirms K j n (K.slow n)

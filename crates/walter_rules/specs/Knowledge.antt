@@ -1,5 +1,5 @@
 -- What a site knows. A later state of it is told field by field in specs/Learning.antt.
-use Rattle.std.specs.Prelude.{ℕ, ◌+◌, ◌-◌, List, [], map, filter, not, Option, None}
+use Rattle.std.specs.Prelude.{ℕ, ◌+◌, ◌-◌, nat_eq, List, [], ◌∷◌, map, filter, not, Option, None, if◌then◌else◌}
 use Rattle.std.specs.FinMap.{get}
 use Rattle.std.specs.List.{range_with_len}
 use Rattle.std.specs.Option.{option_map_or}
@@ -11,6 +11,7 @@ use Rattle.walter_base.specs.declared.names.SiteId.{SiteId}
 use Rattle.walter_base.specs.declared.names.Tid.{Tid}
 use Rattle.walter_base.specs.declared.transaction.Conflict.{Conflict}
 use Rattle.walter_base.specs.Names.{same_site}
+use Rattle.walter_base.specs.Values.{Handed}
 use Rattle.walter_rules.specs.declared.held.Held.{Held}
 use Rattle.walter_rules.specs.Sessions.{Session, Sessions, session_in}
 use Rattle.walter_rules.specs.Slow.{Slow, Unused, Part, Free}
@@ -24,15 +25,25 @@ pub record Knowledge : Type 0 where
   pub log : List Held
   pub got : SiteId → ℕ
   pub committed : SiteId → ℕ
+  -- the containers that were handed over, by commits of this site and by those committed here, in the order in which
+  -- they were committed here
+  pub moves : List Handed
   -- the clients' transactions
   pub sessions : Sessions
   -- the last number of an own slow commit, and the own slow commits by their numbers
   pub last : ℕ
   pub slow : ℕ → Slow
+  -- which objects an own slow commit asks of each site, itself among them: those that were preferred there at its begin
+  pub wanted : ℕ → SiteId → List ObjId
   -- what there is here of the slow commits of each coordinator, itself among them; and the owner of the lock on an
   -- object
   pub part : SiteId → ℕ → Part
   pub owner : ObjId → Option Tid
+  -- the objects that are locked here
+  pub locked : List ObjId
+  -- where each own commit is to be held: at the sites at which what it changed was preferred just before it, and at
+  -- that to which it hands a container
+  pub placed : ℕ → List SiteId
   -- the marks that were journaled last
   pub durable_floor : ℕ
   pub visible_floor : ℕ
@@ -56,11 +67,15 @@ fresh = record {
   log = [];
   got = λ k. 0;
   committed = λ k. 0;
+  moves = [];
   sessions = [];
   last = 0;
   slow = λ n. Unused;
+  wanted = λ n k. [];
   part = λ j n. Free;
   owner = λ oid. None;
+  locked = [];
+  placed = λ q. [];
   durable_floor = 0;
   visible_floor = 0;
   format = First;
@@ -75,11 +90,27 @@ fresh = record {
 abbrev pub session_of : Knowledge → ℕ → Option Session
 session_of K client = session_in client K.sessions
 
--- the site at which an object is preferred: that of its container, and the first where there is none, which no update
--- names. It is read here alone, by what the site knows and the catalog.
+-- the site at which a container is preferred by the catalog; the first where there is no such container, which no
+-- update names
+abbrev pub declared_home : Catalog → ℕ → SiteId
+declared_home catalog container = option_map_or (λ c. c.preferred) (get catalog.containers container) (record { 0 = 0 })
+
+-- the site to which the last of these has handed the container, or else this one
+abbrev pub holder_from : ℕ → SiteId → List Handed → SiteId
+holder_from container at [] = at
+holder_from container at (m ∷ ms) = holder_from container (if nat_eq m.0 container then m.1 else at) ms
+
+-- the holder of a container, by what was handed over, in order
+abbrev pub holder : Catalog → List Handed → ℕ → SiteId
+holder catalog moves container = holder_from container (declared_home catalog container) moves
+
+-- the site at which a container is preferred, and an object, which is that of its container. It is read here alone, by
+-- what the site knows and the catalog.
+abbrev pub preferred_in : Catalog → Knowledge → ℕ → SiteId
+preferred_in catalog K container = holder catalog K.moves container
+
 abbrev pub preferred : Catalog → Knowledge → ObjId → SiteId
-preferred catalog K oid = option_map_or (λ container. container.preferred) (get catalog.containers oid.container)
-    (record { 0 = 0 })
+preferred catalog K oid = preferred_in catalog K oid.container
 
 abbrev pub site_at : ℕ → SiteId
 site_at k = record { 0 = k }

@@ -1,6 +1,6 @@
 -- What a site knows after a record, after a reply, and after what a peer said; and what is left of it at a stop. Each
 -- field goes by itself, by the record, the reply or the packet first.
-use Rattle.std.specs.Prelude.{ℕ, zero, suc, ◌+◌, nat_eq, max, Bool, List, [], ◌∷◌, ◌++◌, Option, Some, None, Result, Ok, if◌then◌else◌}
+use Rattle.std.specs.Prelude.{ℕ, zero, suc, ◌+◌, nat_eq, max, Bool, not, List, [], ◌∷◌, ◌++◌, filter, Option, Some, None, Result, Ok, if◌then◌else◌, true, false}
 use Rattle.std.specs.List.{list_any}
 use Rattle.walter_base.specs.declared.catalog.Catalog.{Catalog}
 use Rattle.walter_base.specs.declared.message.BadFrame.{BadFrame}
@@ -10,7 +10,7 @@ use Rattle.walter_base.specs.declared.message.Record.{Record}
 use Rattle.walter_base.specs.declared.message.Record.TheVariants.{Boot, Own, Got, Seen, Prepared, Released, SlowBegin, SlowEnd, Marks, Format as FormatRecord}
 use Rattle.walter_base.specs.declared.message.Reply.TheVariants.{Started, Done, Committed, Aborted, Deciding, Ended, Unsure}
 use Rattle.walter_base.specs.declared.message.Request.{Request}
-use Rattle.walter_base.specs.declared.message.Request.TheVariants.{Write, SetAdd, SetDel}
+use Rattle.walter_base.specs.declared.message.Request.TheVariants.{Write, SetAdd, SetDel, Handover, Befriend, Unfriend}
 use Rattle.walter_base.specs.declared.names.ObjId.{ObjId}
 use Rattle.walter_base.specs.declared.names.SiteId.{SiteId}
 use Rattle.walter_base.specs.declared.names.Tid.{Tid}
@@ -18,9 +18,12 @@ use Rattle.walter_base.specs.declared.packet.Answer.TheVariants.{Yes, No}
 use Rattle.walter_base.specs.declared.packet.Packet.TheVariants.{Ack, Dsmark, Visible, Vote, Released as ReleasedSaid}
 use Rattle.walter_base.specs.declared.transaction.Conflict.{Conflict}
 use Rattle.walter_base.specs.declared.transaction.Tx.{Tx}
+use Rattle.walter_base.specs.declared.update.Update.{Update}
 use Rattle.walter_base.specs.declared.update.Update.TheVariants.{Write as WriteOf, Add, Del}
 use Rattle.walter_base.specs.ByClient.{changed, without}
+use Rattle.walter_base.specs.Friends.{pair, both}
 use Rattle.walter_base.specs.Names.{same_site}
+use Rattle.walter_base.specs.Values.{Handed, moves_of}
 use Rattle.walter_rules.specs.declared.event.Event.{Event}
 use Rattle.walter_rules.specs.declared.event.Event.TheVariants.{Given}
 use Rattle.walter_rules.specs.declared.event.Input.TheVariants.{Call, Deliver}
@@ -29,8 +32,8 @@ use Rattle.walter_rules.specs.declared.outcome.Outcome.{Outcome}
 use Rattle.walter_rules.specs.declared.outcome.Outcome.TheVariants.{Replied, Taken}
 use Rattle.walter_rules.specs.Knowledge.{Knowledge, from_to, vector_of}
 use Rattle.walter_rules.specs.Log.{commit_at}
-use Rattle.walter_rules.specs.Objects.{objects_at, participants}
-use Rattle.walter_rules.specs.Sessions.{Session, Sessions, with_update, with_slow}
+use Rattle.walter_rules.specs.Objects.{objects_at, participants, places}
+use Rattle.walter_rules.specs.Sessions.{Session, Sessions, with_slow, with_updates}
 use Rattle.walter_rules.specs.Slow.{Slow, Undecided, ended, decided, Part, Locked, Over, is_slow, has_object, does_lock, unlocked}
 
 -- after a record
@@ -62,6 +65,24 @@ committed_after i (Some (Own seq tx)) committed k = one_more i committed k
 committed_after i (Some (Seen from seq)) committed k = one_more from committed k
 committed_after i (Some rec) committed k = committed k
 
+-- what the commit of this number of a site hands over
+abbrev pub moves_in : Option Tx → List Handed
+moves_in None = []
+moves_in (Some tx) = moves_of tx.updates
+
+-- a container is handed over where the commit stands here
+abbrev pub moves_after : Knowledge → Option Record → List Handed
+moves_after K None = K.moves
+moves_after K (Some (Own seq tx)) = K.moves ++ moves_of tx.updates
+moves_after K (Some (Seen from seq)) = K.moves ++ moves_in (commit_at from seq K.log)
+moves_after K (Some rec) = K.moves
+
+-- an own commit is to be held where what it changes is preferred just before it
+abbrev pub placed_after : Catalog → Knowledge → Option Record → ℕ → List SiteId
+placed_after catalog K None q = K.placed q
+placed_after catalog K (Some (Own seq tx)) q = if nat_eq seq q then places catalog K tx.updates else K.placed q
+placed_after catalog K (Some rec) q = K.placed q
+
 abbrev pub last_after : Option Record → ℕ → ℕ
 last_after None last = last
 last_after (Some (SlowBegin n tx)) last = n
@@ -76,6 +97,13 @@ slow_after catalog i K (Some (SlowEnd m)) n = if nat_eq m n then ended (K.slow n
 slow_after catalog i K (Some (Own seq tx)) n = if nat_eq tx.slow n then decided (K.slow n) else K.slow n
 slow_after catalog i K (Some (Boot epoch)) n = ended (K.slow n)
 slow_after catalog i K (Some rec) n = K.slow n
+
+-- an own slow commit asks of each site the objects that are preferred there at its begin
+abbrev pub wanted_after : Catalog → Knowledge → Option Record → ℕ → SiteId → List ObjId
+wanted_after catalog K None n k = K.wanted n k
+wanted_after catalog K (Some (SlowBegin m tx)) n k =
+    if nat_eq m n then objects_at catalog K k tx.updates else K.wanted n k
+wanted_after catalog K (Some rec) n k = K.wanted n k
 
 -- the number of the slow commit of a transaction that a site holds, 0 for a fast one
 abbrev pub slow_number : Option Tx → ℕ
@@ -137,6 +165,27 @@ owner_after catalog i K (Some (Got k seq tx)) oid = K.owner oid
 owner_after catalog i K (Some (Marks durable visible)) oid = K.owner oid
 owner_after catalog i K (Some FormatRecord) oid = K.owner oid
 
+-- of these objects those that the part doesn't lock
+abbrev pub without_locked : Part → List ObjId → List ObjId
+without_locked part objects = filter (λ oid. not (does_lock part oid)) objects
+
+abbrev pub without_over : SiteId → ℕ → Knowledge → List ObjId
+without_over j zero K = K.locked
+without_over j (suc n) K = without_locked (K.part j (suc n)) K.locked
+
+abbrev pub locked_after : Catalog → SiteId → Knowledge → Option Record → List ObjId
+locked_after catalog i K None = K.locked
+locked_after catalog i K (Some (Prepared k m tid objects)) = K.locked ++ objects
+locked_after catalog i K (Some (Released k m)) = without_locked (K.part k m) K.locked
+locked_after catalog i K (Some (Seen k seq)) = without_over k (slow_number (commit_at k seq K.log)) K
+locked_after catalog i K (Some (SlowBegin m tx)) = K.locked ++ objects_at catalog K i tx.updates
+locked_after catalog i K (Some (SlowEnd m)) = without_locked (K.part i m) K.locked
+locked_after catalog i K (Some (Own seq tx)) = without_locked (K.part i tx.slow) K.locked
+locked_after catalog i K (Some (Boot epoch)) = filter (λ oid. not (is_locked_here i K oid)) K.locked
+locked_after catalog i K (Some (Got k seq tx)) = K.locked
+locked_after catalog i K (Some (Marks durable visible)) = K.locked
+locked_after catalog i K (Some FormatRecord) = K.locked
+
 abbrev pub durable_after : Option Record → ℕ → ℕ
 durable_after None floor = floor
 durable_after (Some (Marks durable visible)) floor = durable
@@ -163,10 +212,14 @@ recorded catalog i rec K = record K {
   log = log_after rec K.log;
   got = got_after i rec K.got;
   committed = committed_after i rec K.committed;
+  moves = moves_after K rec;
   last = last_after rec K.last;
   slow = slow_after catalog i K rec;
+  wanted = wanted_after catalog K rec;
   part = part_after catalog i K rec;
   owner = owner_after catalog i K rec;
+  locked = locked_after catalog i K rec;
+  placed = placed_after catalog K rec;
   durable_floor = durable_after rec K.durable_floor;
   visible_floor = visible_after rec K.visible_floor;
   format = format_after rec K.format;
@@ -174,9 +227,11 @@ recorded catalog i rec K = record K {
 
 -- after a reply
 
-abbrev pub starts_after : Outcome → ℕ → ℕ
-starts_after (Replied (Started tid)) starts = starts + 1
-starts_after outcome starts = starts
+-- a transaction is started by a Start, and by a handover that is committed
+abbrev pub starts_after : Event → Outcome → ℕ → ℕ
+starts_after event (Replied (Started tid)) starts = starts + 1
+starts_after (Given (Call client (Ok (Handover container to)))) (Replied (Committed version)) starts = starts + 1
+starts_after event outcome starts = starts
 
 -- the sessions with one more, of the event's client
 abbrev pub opened : Event → Session → Sessions → Sessions
@@ -188,17 +243,33 @@ abbrev pub closed : Event → Sessions → Sessions
 closed (Given (Call client call)) sessions = without client sessions
 closed event sessions = sessions
 
--- the session with the update that was asked for
-abbrev pub updated : Result Request BadFrame → Session → Session
-updated (Ok (Write oid bytes)) s = with_update (WriteOf oid bytes) s
-updated (Ok (SetAdd oid id)) s = with_update (Add oid id) s
-updated (Ok (SetDel oid id)) s = with_update (Del oid id) s
-updated call s = s
+-- but a handover that is committed, or isn't sure to be, ends none
+abbrev pub closed_by : Event → Sessions → Sessions
+closed_by (Given (Call client (Ok (Handover container to)))) sessions = sessions
+closed_by event sessions = closed event sessions
 
--- the sessions where that of the event's client has the update
-abbrev pub done : Event → Sessions → Sessions
-done (Given (Call client call)) sessions = changed client (updated call) sessions
-done event sessions = sessions
+-- the two updates of friends, where there are friend lists
+abbrev pub pair_asked : Option ℕ → ℕ → ℕ → Bool → List Update
+pair_asked None a b gain = []
+pair_asked (Some friends) a b gain = both (pair friends a b gain)
+
+-- the updates that a call asks for, by the container of the friend lists
+abbrev pub updates_asked : Option ℕ → Result Request BadFrame → List Update
+updates_asked friends (Ok (Write oid bytes)) = WriteOf oid bytes ∷ []
+updates_asked friends (Ok (SetAdd oid id)) = Add oid id ∷ []
+updates_asked friends (Ok (SetDel oid id)) = Del oid id ∷ []
+updates_asked friends (Ok (Befriend a b)) = pair_asked friends a b true
+updates_asked friends (Ok (Unfriend a b)) = pair_asked friends a b false
+updates_asked friends call = []
+
+-- the session with them
+abbrev pub updated : Option ℕ → Result Request BadFrame → Session → Session
+updated friends call s = with_updates (updates_asked friends call) s
+
+-- the sessions where that of the event's client has them
+abbrev pub done : Option ℕ → Event → Sessions → Sessions
+done friends (Given (Call client call)) sessions = changed client (updated friends call) sessions
+done friends event sessions = sessions
 
 -- the session with the number of the slow commit that was begun
 abbrev pub deciding : Option Record → Session → Session
@@ -210,22 +281,22 @@ abbrev pub begun_by : Event → Option Record → Sessions → Sessions
 begun_by (Given (Call client call)) wrote sessions = changed client (deciding wrote) sessions
 begun_by event wrote sessions = sessions
 
-abbrev pub sessions_after : Event → Outcome → Option Record → List ℕ → Sessions → Sessions
-sessions_after event (Replied (Started tid)) wrote snapshot sessions =
+abbrev pub sessions_after : Option ℕ → Event → Outcome → Option Record → List ℕ → Sessions → Sessions
+sessions_after friends event (Replied (Started tid)) wrote snapshot sessions =
     opened event (record { tid = tid; snapshot = snapshot; updates = []; slow = 0 }) sessions
-sessions_after event (Replied Done) wrote snapshot sessions = done event sessions
-sessions_after event (Replied (Committed version)) wrote snapshot sessions = closed event sessions
-sessions_after event (Replied (Aborted cause)) wrote snapshot sessions = closed event sessions
-sessions_after event (Replied (Deciding tid)) wrote snapshot sessions = begun_by event wrote sessions
-sessions_after event (Replied Ended) wrote snapshot sessions = closed event sessions
-sessions_after event (Replied (Unsure tid)) wrote snapshot sessions = closed event sessions
-sessions_after event outcome wrote snapshot sessions = sessions
+sessions_after friends event (Replied Done) wrote snapshot sessions = done friends event sessions
+sessions_after friends event (Replied (Committed version)) wrote snapshot sessions = closed_by event sessions
+sessions_after friends event (Replied (Aborted cause)) wrote snapshot sessions = closed event sessions
+sessions_after friends event (Replied (Deciding tid)) wrote snapshot sessions = begun_by event wrote sessions
+sessions_after friends event (Replied Ended) wrote snapshot sessions = closed event sessions
+sessions_after friends event (Replied (Unsure tid)) wrote snapshot sessions = closed_by event sessions
+sessions_after friends event outcome wrote snapshot sessions = sessions
 
 -- what is known after a reply, to an event that made this record stable
 abbrev pub answered : Catalog → Event → Outcome → Option Record → Knowledge → Knowledge
 answered catalog event outcome wrote K = record K {
-  starts = starts_after outcome K.starts;
-  sessions = sessions_after event outcome wrote (vector_of catalog K) K.sessions;
+  starts = starts_after event outcome K.starts;
+  sessions = sessions_after catalog.friends event outcome wrote (vector_of catalog K) K.sessions;
 }
 
 -- after what a peer said, where it is taken

@@ -1,14 +1,10 @@
 -- How far the own commits are durable, and visible, by what a site knows (docs/SITE.md, "Durable and visible").
-use Rattle.std.specs.Prelude.{ℕ, zero, suc, ◌+◌, nat_eq, nat_le, max, Bool, true, ◌&&◌, ◌||◌, count_by, if◌then◌else◌}
+use Rattle.std.specs.Prelude.{ℕ, zero, suc, ◌+◌, nat_eq, nat_le, max, Bool, ◌&&◌, ◌||◌, count_by, if◌then◌else◌}
 use Rattle.std.specs.List.{list_all}
-use Rattle.std.specs.Option.{option_map_or}
 use Rattle.walter_base.specs.declared.catalog.Catalog.{Catalog}
 use Rattle.walter_base.specs.declared.names.SiteId.{SiteId}
-use Rattle.walter_base.specs.declared.transaction.Tx.{Tx}
 use Rattle.walter_base.specs.Names.{same_site}
-use Rattle.walter_base.specs.Values.{object_of}
-use Rattle.walter_rules.specs.Knowledge.{Knowledge, preferred, sites, peers}
-use Rattle.walter_rules.specs.Log.{commit_at}
+use Rattle.walter_rules.specs.Knowledge.{Knowledge, sites, peers}
 
 -- how many numbers from 1 on, up to a most, pass one after another
 abbrev pub passed : (ℕ → Bool) → ℕ → ℕ
@@ -19,15 +15,15 @@ passed test (suc n) = if nat_eq (passed test n) n && test (suc n) then suc n els
 abbrev pub holds : SiteId → Knowledge → ℕ → SiteId → Bool
 holds i K q site = same_site site i || nat_le q (K.acknowledged site)
 
--- at the preferred site of each object that the transaction changed, sets too
-abbrev pub is_at_homes : Catalog → SiteId → Knowledge → ℕ → Tx → Bool
-is_at_homes catalog i K q tx = list_all (λ update. holds i K q (preferred catalog K (object_of update))) tx.updates
+-- at each site at which it is to be held: where what it changed was preferred, sets too
+abbrev pub is_at_homes : SiteId → Knowledge → ℕ → Bool
+is_at_homes i K q = list_all (holds i K q) (K.placed q)
 
 -- own commit q is held by more sites than may be lost, those preferred sites among them
 abbrev pub is_held : Catalog → SiteId → Knowledge → ℕ → Bool
 is_held catalog i K q =
     nat_le (catalog.tolerated + 1) (count_by (holds i K q) (sites catalog))
-    && option_map_or (is_at_homes catalog i K q) (commit_at i q K.log) true
+    && is_at_homes i K q
 
 -- each peer has called the own commits up to m visible
 abbrev pub is_visible : Catalog → SiteId → Knowledge → ℕ → Bool

@@ -6,7 +6,7 @@ use Rattle.walter_base.specs.declared.format.Format.{Format}
 use Rattle.walter_base.specs.declared.format.Format.TheVariants.{First, Second}
 use Rattle.walter_base.specs.declared.message.Record.TheVariants.{Boot, Format as FormatRecord}
 use Rattle.walter_base.specs.declared.message.Request.{Request}
-use Rattle.walter_base.specs.declared.message.Request.TheVariants.{Start, Read, Write, SetAdd, SetDel, SetRead, SetReadId, Commit, Abort, Level as LevelAsked}
+use Rattle.walter_base.specs.declared.message.Request.TheVariants.{Start, Read, Write, SetAdd, SetDel, SetRead, SetReadId, Commit, Abort, Level as LevelAsked, Handover, StartAt, Token, Befriend, Unfriend}
 use Rattle.walter_base.specs.declared.names.SiteId.{SiteId}
 use Rattle.walter_rules.specs.declared.event.Event.{Event}
 use Rattle.walter_rules.specs.declared.event.Event.TheVariants.{Given, Stop, Restart}
@@ -76,3 +76,8 @@ MayWant (Ok (SetReadId oid id)) = ⊥
 MayWant (Ok Commit) = Unit {0}
 MayWant (Ok Abort) = ⊥
 MayWant (Ok (LevelAsked tid)) = ⊥
+MayWant (Ok (Handover container to)) = Unit {0}
+MayWant (Ok (StartAt token)) = Unit {0}
+MayWant (Ok Token) = Unit {0}
+MayWant (Ok (Befriend a b)) = Unit {0}
+MayWant (Ok (Unfriend a b)) = Unit {0}

@@ -1,6 +1,7 @@
 -- What a site puts out: to each peer by kind, and packets of one kind by number (docs/SITE.md, "What is put out").
 use Rattle.std.specs.Prelude.{ℕ, ◌+◌, nat_le, nat_lt, min, max, not, ◌&&◌, List, [], ◌∷◌, ◌++◌, map, filter_map, flat_map, option_map, if◌then◌else◌}
 use Rattle.walter_base.specs.declared.catalog.Catalog.{Catalog}
+use Rattle.walter_base.specs.declared.names.ObjId.{ObjId}
 use Rattle.walter_base.specs.declared.names.SiteId.{SiteId}
 use Rattle.walter_base.specs.declared.packet.Packet.{Packet}
 use Rattle.walter_base.specs.declared.packet.Packet.TheVariants.{Propagate, Ack, Dsmark, Visible, Prepare, Release}
@@ -9,7 +10,6 @@ use Rattle.walter_base.specs.Names.{same_site}
 use Rattle.walter_rules.specs.Knowledge.{Knowledge, peers, from_to}
 use Rattle.walter_rules.specs.Log.{commit_at}
 use Rattle.walter_rules.specs.Marks.{durable_mark}
-use Rattle.walter_rules.specs.Objects.{objects_at}
 use Rattle.walter_rules.specs.Slow.{Slow, Unused, Undecided, Dropped, Decided, has_site}
 
 -- a packet with its receiver
@@ -58,17 +58,17 @@ own_to catalog i before K k =
 abbrev pub own_sends : Catalog → SiteId → Knowledge → Knowledge → List Send
 own_sends catalog i before K = to_each (peers catalog i) (own_to catalog i before K)
 
--- the PREPARE of an own slow commit to a site that is asked, with that site's objects
-abbrev pub prepare_of : Catalog → Knowledge → ℕ → Tx → SiteId → Packet
-prepare_of catalog K n tx k = Prepare n tx.tid tx.start (objects_at catalog K k tx.updates)
+-- the PREPARE of an own slow commit to a site that is asked, with the objects that it wants there
+abbrev pub prepare_of : (SiteId → List ObjId) → ℕ → Tx → SiteId → Packet
+prepare_of wanted n tx k = Prepare n tx.tid tx.start (wanted k)
 
 -- to a site, of the slow commits that wait for its vote: its PREPARE
-abbrev pub prepare_if_waits : Catalog → Knowledge → SiteId → ℕ → Slow → List Packet
-prepare_if_waits catalog K k n (Undecided tx asked) =
-    if has_site k asked && not (has_site k (K.said_yes n)) then prepare_of catalog K n tx k ∷ [] else []
-prepare_if_waits catalog K k n Unused = []
-prepare_if_waits catalog K k n (Dropped tx asked) = []
-prepare_if_waits catalog K k n (Decided tx) = []
+abbrev pub prepare_if_waits : Knowledge → SiteId → ℕ → Slow → List Packet
+prepare_if_waits K k n (Undecided tx asked) =
+    if has_site k asked && not (has_site k (K.said_yes n)) then prepare_of (K.wanted n) n tx k ∷ [] else []
+prepare_if_waits K k n Unused = []
+prepare_if_waits K k n (Dropped tx asked) = []
+prepare_if_waits K k n (Decided tx) = []
 
 -- of those that ended without a commit, where it hasn't said RELEASED: its RELEASE
 abbrev pub release_if_owed : Knowledge → SiteId → ℕ → Slow → List Packet
@@ -85,5 +85,5 @@ said_again catalog i K k =
     ++ (if_some (K.got k) (Ack (K.got k))
     ++ (if_some (durable_mark catalog i K) (Dsmark (durable_mark catalog i K))
     ++ (if_some (K.committed k) (Visible (K.committed k))
-    ++ (flat_map (λ n. prepare_if_waits catalog K k n (K.slow n)) (from_to 1 K.last)
+    ++ (flat_map (λ n. prepare_if_waits K k n (K.slow n)) (from_to 1 K.last)
     ++ flat_map (λ n. release_if_owed K k n (K.slow n)) (from_to 1 K.last)))))

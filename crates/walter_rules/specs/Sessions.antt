@@ -24,6 +24,9 @@ session_in client sessions = of_client client sessions
 abbrev pub with_update : Update → Session → Session
 with_update update s = record s { updates = s.updates ++ update ∷ [] }
 
+abbrev pub with_updates : List Update → Session → Session
+with_updates updates s = record s { updates = s.updates ++ updates }
+
 abbrev pub with_slow : ℕ → Session → Session
 with_slow slow s = record s { slow = slow }
 

@@ -133,10 +133,10 @@ impl Sessions {
         self.keys.insert(client, key).unwrap();
     }
 
-    /// Makes room for one more update of the client's session, where it has one.
-    pub fn reserve_update(&mut self, client: u32) -> Mem<()>
-        ensures enough { OnOk result (IsSome (session_of self.old client) → 0 < room_of self.new client) }
-        ensures had { 0 < room_of self.old client → IsOk result }
+    /// Makes room for so many updates more of the client's session, where it has one.
+    pub fn reserve_updates(&mut self, client: u32, more: usize) -> Mem<()>
+        ensures enough { OnOk result (IsSome (session_of self.old client) → more ≤ room_of self.new client) }
+        ensures had { more ≤ room_of self.old client → IsOk result }
         ensures sessions { sessions_of self.new ≡ sessions_of self.old }
         ensures room { (other : ℕ) → room_of self.old other ≤ room_of self.new other }
         ensures starts { CanStart self.old → CanStart self.new }
@@ -147,7 +147,7 @@ impl Sessions {
         let Some(slot) = self.slots.get_mut(key) else {
             return Ok(());
         };
-        slot.make_room()
+        slot.make_room(more)
     }
 
     /// Puts an update behind the others of the client's session.
@@ -161,7 +161,7 @@ impl Sessions {
             ≤ room_of self.new other + (if nat_eq client other then 1 else 0) }
         ensures starts { CanStart self.old → CanStart self.new }
     {
-        self.reserve_update(client)?;
+        self.reserve_updates(client, 1)?;
         self.push(client, update);
         Ok(())
     }

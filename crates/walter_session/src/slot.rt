@@ -14,15 +14,15 @@ pub struct Slot {
 }
 
 impl Slot {
-    /// Makes room for one more update.
-    pub fn make_room(&mut self) -> Mem<()>
+    /// Makes room for so many updates more.
+    pub fn make_room(&mut self, more: usize) -> Mem<()>
         ensures client { self.new.client ≡ self.old.client }
         ensures session { (kept_in self.new).session ≡ (kept_in self.old).session }
-        ensures enough { OnOk result (0 < (kept_in self.new).room) }
+        ensures enough { OnOk result (more ≤ (kept_in self.new).room) }
         ensures more { (kept_in self.old).room ≤ (kept_in self.new).room }
-        ensures had { 0 < (kept_in self.old).room → IsOk result }
+        ensures had { more ≤ (kept_in self.old).room → IsOk result }
     {
-        self.session.updates.reserve(1)?;
+        self.session.updates.reserve(more)?;
         Ok(())
     }
 

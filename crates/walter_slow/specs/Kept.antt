@@ -7,7 +7,7 @@ use Rattle.walter_base.specs.declared.names.Tid.{Tid}
 use Rattle.walter_base.specs.declared.packet.Answer.{Answer}
 use Rattle.walter_base.specs.declared.packet.Answer.TheVariants.{Yes, No, Later}
 use Rattle.walter_base.specs.declared.transaction.Conflict.{Conflict}
-use Rattle.walter_base.specs.declared.transaction.Conflict.TheVariants.{Modified, Locked, Dead}
+use Rattle.walter_base.specs.declared.transaction.Conflict.TheVariants.{Modified, Locked, Dead, Moving}
 use Rattle.walter_base.specs.declared.transaction.Tx.{Tx}
 use Rattle.walter_base.specs.Names.{same_tid}
 use Rattle.walter_rules.specs.Slow.{Slow, Unused, Undecided, Dropped, Decided, has_site}
@@ -62,6 +62,7 @@ judged kept from Yes = if list_all (λ site. has_site site (from ∷ kept.heard)
 judged kept from (No (Modified oid version)) = Abort (Modified oid version)
 judged kept from (No (Locked oid owner)) = Abort (Locked oid owner)
 judged kept from (No Dead) = Waiting
+judged kept from (No (Moving oid)) = Abort (Moving oid)
 judged kept from Later = Waiting
 
 -- and no vote counts but that of a site that an undecided slow commit has asked

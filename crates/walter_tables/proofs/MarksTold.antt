@@ -26,9 +26,9 @@ use Rattle.walter_rules.specs.Knowledge.{Knowledge, site_at, sites, peers, prefe
 use Rattle.walter_rules.specs.Learning.{recorded, risen}
 use Rattle.walter_rules.specs.Log.{of_site, commit_at}
 use Rattle.walter_rules.specs.Marks.{passed, holds, is_at_homes, is_held, is_visible, durable_mark, visible_mark}
-use Rattle.walter_rules.proofs.Membership.{each_passes, kept_from, is_kept, made_from, in_cases, in_range}
+use Rattle.walter_rules.proofs.Membership.{each_passes, kept_from, is_kept, made_from, is_made, in_cases, in_range}
 use Rattle.walter_agreement.proofs.Cases.{site_cases}
-use Rattle.walter_alone.proofs.TestsPass.{all_pass, is_made}
+use Rattle.walter_alone.proofs.TestsPass.{all_pass}
 use Rattle.walter_tables.specs.Parts.{IsDurableOf}
 use Rattle.walter_tables.proofs.FitsTold.{both_true}
 use Rattle.walter_tables.proofs.PartsKept.{homes_then, risen_entry}

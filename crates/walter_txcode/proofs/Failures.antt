@@ -1,7 +1,7 @@
 -- Where a part can't be read, the bytes don't begin with the spelling of any value that has the part.
-use Rattle.std.proofs.Common.{◌≡◌, ◌≢◌, ℕ, suc, ◌+◌, ◌-◌, ◌*◌, ◌^◌, ◌<◌, ◌≤◌, List, [], ◌∷◌, ◌++◌, length, take, replicate, Result, Ok, Err, sym, ap, subst, ◌∙◌, append_assoc, arith}
+use Rattle.std.proofs.Common.{◌≡◌, ◌≢◌, ℕ, suc, ◌+◌, ◌-◌, ◌*◌, ◌^◌, ◌<◌, ◌≤◌, List, [], ◌∷◌, ◌++◌, length, replicate, Result, Ok, Err, sym, ap, subst, ◌∙◌, append_assoc, arith}
 use Rattle.std.specs.Prelude.{◌↔◌, All, flat_map, sum_by, IfErr, IsErrAnd}
-use Rattle.std.proofs.lemmas.List.{length-append, length-take, append_cancel_left, replicate-append-replicate}
+use Rattle.std.proofs.lemmas.List.{length-append, append_cancel_left, replicate-append-replicate}
 use Rattle.std.proofs.lemmas.List.Concat.{flat_map-append, flat_map-cons}
 use Rattle.walter_base.specs.declared.format.Format.{Format}
 use Rattle.walter_base.specs.declared.format.Format.TheVariants.{First, Second}
@@ -9,7 +9,7 @@ use Rattle.walter_base.specs.declared.names.ObjId.{ObjId}
 use Rattle.walter_base.specs.declared.names.Tid.{Tid}
 use Rattle.walter_base.specs.declared.transaction.Tx.{Tx}
 use Rattle.walter_base.specs.declared.update.Update.{Update}
-use Rattle.walter_base.specs.declared.update.Update.TheVariants.{Write, Add, Del}
+use Rattle.walter_base.specs.declared.update.Update.TheVariants.{Write, Add, Del, Move}
 use Rattle.walter_fields.specs.Cursors.{Remainder, Takes, LacksBlock}
 use Rattle.walter_fields.specs.Spellings.{number_spelled, block_spelled}
 use Rattle.walter_fields.proofs.Numbers.{length-number_spelled, same_number}
@@ -17,13 +17,15 @@ use Rattle.walter_fields.proofs.Readings.{LacksBlock-no_block, same_block}
 use Rattle.walter_txcode.specs.declared.fault.DecodeFault.{DecodeFault}
 use Rattle.walter_txcode.specs.declared.fault.DecodeFault.TheVariants.{Unspelled, NoMemory}
 use Rattle.walter_txcode.specs.Faults.{IfUnspelled, NoneBegins}
-use Rattle.walter_names.specs.Names.{object_spelled, tid_spelled, IsObject, IsTid, member_spelled}
+use Rattle.walter_names.specs.Names.{object_spelled, tid_spelled, IsObject, IsTid, member_spelled, move_spelled}
 use Rattle.walter_base.specs.Sizes.{HasShortValue, size_in, size_of_vector, size_of_update, most_in}
-use Rattle.walter_txcode.specs.Spelling.{longest, numbers_spelled, vector_spelled, value_spelled, update_spelled, updates_spelled, head_spelled, spelling, AreFew, IsUpdate, HasSpelling}
-use Rattle.walter_names.proofs.Lengths.{length-tid_spelled, length-member_spelled}
-use Rattle.walter_txcode.proofs.Lengths.{length-numbers_spelled, length-value_spelled, length-update_spelled, length-updates_spelled, length-head_spelled, length-vector_spelled}
+use Rattle.walter_txcode.specs.Spelling.{longest, vector_spelled, value_spelled, update_spelled, updates_spelled, head_spelled, spelling, AreFew, IsUpdate, HasSpelling}
+use Rattle.walter_names.specs.Vectors.{numbers_spelled}
+use Rattle.walter_names.proofs.Lengths.{length-tid_spelled, length-member_spelled, length-move_spelled}
+use Rattle.walter_txcode.proofs.Lengths.{length-value_spelled, length-update_spelled, length-updates_spelled, length-head_spelled, length-vector_spelled}
+use Rattle.walter_names.proofs.Numbers.{length-numbers_spelled, same_numbers}
 use Rattle.walter_names.proofs.Prefixes.{same_object, same_tid}
-use Rattle.walter_txcode.proofs.Prefixes.{few_of, same_numbers, vector_parts, vector_told, kind_of, fields_spelled, behind_kind, same_update, AreSpellable, AreSpellable-from_both, each_spelled, each_parts, HasHead, same_head, same_updates, first_two}
+use Rattle.walter_txcode.proofs.Prefixes.{few_of, vector_parts, vector_told, kind_of, fields_spelled, behind_kind, same_update, AreSpellable, AreSpellable-from_both, each_spelled, each_parts, HasHead, same_head, same_updates, first_two}
 
 pub IfUnspelled-weaker : (fault : DecodeFault) {P Q : Type 0} → (P → Q) → IfUnspelled fault P → IfUnspelled fault Q
 IfUnspelled-weaker Unspelled f h = f h
@@ -73,6 +75,7 @@ no_update_at_all left few u rest e = omega (arith, ap length e, length-append (u
     some (Write oid bytes) = omega (arith, length-update_spelled (Write oid bytes))
     some (Add oid id) = omega (arith, length-update_spelled (Add oid id))
     some (Del oid id) = omega (arith, length-update_spelled (Del oid id))
+    some (Move container to) = omega (arith, length-update_spelled (Move container to))
 
 pub no_write : (left mid : List ℕ) → left ≡ number_spelled 1 1 ++ mid
     → ((oid : ObjId) (bytes rest : List ℕ) → IsObject oid → length bytes ≤ 4096 → mid ≢ value_spelled oid bytes ++ rest)
@@ -83,24 +86,37 @@ no_write left mid is none u rest fits short e = of_kind u fits short (behind_kin
     of_kind (Write oid bytes) fits short parts = none oid bytes rest fits short parts.1
     of_kind (Add oid id) fits short parts = omega (arith, parts.0)
     of_kind (Del oid id) fits short parts = omega (arith, parts.0)
+    of_kind (Move container to) fits short parts = omega (arith, parts.0)
 
-pub no_member : (k : ℕ) (left mid : List ℕ) → 1 < k → k < 256 → left ≡ number_spelled 1 k ++ mid → length mid < 20
+pub no_member : (k : ℕ) (left mid : List ℕ) → 1 < k → k < 4 → left ≡ number_spelled 1 k ++ mid → length mid < 20
     → (u : Update) (rest : List ℕ) → IsUpdate u → HasShortValue u → left ≢ update_spelled u ++ rest
-no_member k left mid high low is few u rest fits short e = of_kind u (behind_kind k u mid rest low (sym is ∙ e))
+no_member k left mid high low is few u rest fits short e = of_kind u (behind_kind k u mid rest (omega (arith, low)) (sym is ∙ e))
   where
     of_kind : (u : Update) → (k ≡ kind_of u) × (mid ≡ fields_spelled u ++ rest) → ⊥
     of_kind (Write oid bytes) parts = omega (arith, parts.0, high)
     of_kind (Add oid id) parts = too_few 20 mid (member_spelled oid id) rest (length-member_spelled oid id) few parts.1
     of_kind (Del oid id) parts = too_few 20 mid (member_spelled oid id) rest (length-member_spelled oid id) few parts.1
+    of_kind (Move container to) parts = omega (arith, parts.0, low)
 
-pub no_kind : (k : ℕ) (left mid : List ℕ) → k ≢ 1 → k ≢ 2 → k ≢ 3 → k < 256 → left ≡ number_spelled 1 k ++ mid
+pub no_move : (left mid : List ℕ) → left ≡ number_spelled 1 4 ++ mid → length mid < 5
     → (u : Update) (rest : List ℕ) → IsUpdate u → HasShortValue u → left ≢ update_spelled u ++ rest
-no_kind k left mid not_1 not_2 not_3 low is u rest fits short e = of_kind u (behind_kind k u mid rest low (sym is ∙ e)).0
+no_move left mid is few u rest fits short e = of_kind u (behind_kind 4 u mid rest (omega arith) (sym is ∙ e))
+  where
+    of_kind : (u : Update) → (4 ≡ kind_of u) × (mid ≡ fields_spelled u ++ rest) → ⊥
+    of_kind (Write oid bytes) parts = omega (arith, parts.0)
+    of_kind (Add oid id) parts = omega (arith, parts.0)
+    of_kind (Del oid id) parts = omega (arith, parts.0)
+    of_kind (Move container to) parts = too_few 5 mid (move_spelled container to) rest (length-move_spelled container to) few parts.1
+
+pub no_kind : (k : ℕ) (left mid : List ℕ) → k ≢ 1 → k ≢ 2 → k ≢ 3 → k ≢ 4 → k < 256 → left ≡ number_spelled 1 k ++ mid
+    → (u : Update) (rest : List ℕ) → IsUpdate u → HasShortValue u → left ≢ update_spelled u ++ rest
+no_kind k left mid not_1 not_2 not_3 not_4 low is u rest fits short e = of_kind u (behind_kind k u mid rest low (sym is ∙ e)).0
   where
     of_kind : (u : Update) → k ≢ kind_of u
     of_kind (Write oid bytes) = not_1
     of_kind (Add oid id) = not_2
     of_kind (Del oid id) = not_3
+    of_kind (Move container to) = not_4
 
 -- ---- several updates
 
@@ -144,15 +160,6 @@ no_updates k left mid low is none us rest fits few e =
     none us rest (sym behind.0) fits few.values behind.1
 
 -- ---- vectors
-
--- the numbers that were read before the bytes ran out
-pub too_few_numbers : (count i : ℕ) (v left mid : List ℕ) → left ≡ numbers_spelled (take i v) ++ mid → length v ≡ count → i < count → length mid < 8 → length left < 8 * count
-too_few_numbers count i v left mid is long more few =
-    omega (arith, ap length is, length-append (numbers_spelled (take i v)) mid, length-numbers_spelled (take i v), length-take i v)
-
-pub enough_numbers : (count i : ℕ) (v left mid : List ℕ) → left ≡ numbers_spelled (take i v) ++ mid → length v ≡ count → count ≤ i → 8 * count ≤ length left
-enough_numbers count i v left mid is long all =
-    omega (arith, ap length is, length-append (numbers_spelled (take i v)) mid, length-numbers_spelled (take i v), length-take i v)
 
 -- zeros that were read, and no zero behind them
 no_zeros : (i more : ℕ) (left mid : List ℕ) → left ≡ numbers_spelled (replicate i 0) ++ mid → ((rest : List ℕ) → mid ≢ number_spelled 8 0 ++ rest)

@@ -1,10 +1,9 @@
 -- For fewer than eight sites no bytes are a transaction in both formats: where the second has the count of updates, the
 -- first has zeros.
-use Rattle.std.proofs.Common.{◌≡◌, ◌≢◌, ℕ, suc, ◌+◌, ◌-◌, ◌*◌, ◌<◌, ◌≤◌, List, [], ◌∷◌, ◌++◌, length, drop, replicate, refl, sym, ap, ◌∙◌, append_assoc, arith}
-use Rattle.std.specs.Prelude.{flat_map}
+use Rattle.std.proofs.Common.{◌≡◌, ◌≢◌, ℕ, suc, ◌+◌, ◌-◌, ◌<◌, ◌≤◌, List, ◌++◌, length, drop, replicate, refl, sym, ap, ◌∙◌, append_assoc, arith}
 use Rattle.std.proofs.Math.Seq.{drop-append_seam}
 use Rattle.std.proofs.lemmas.List.{length-append}
-use Rattle.std.proofs.lemmas.List.Concat.{flat_map-append, flat_map-cons}
+use Rattle.std.proofs.lemmas.List.Concat.{flat_map-cons}
 use Rattle.walter_base.specs.declared.format.Format.TheVariants.{First, Second}
 use Rattle.walter_base.specs.declared.transaction.Tx.{Tx}
 use Rattle.walter_base.specs.declared.update.Update.{Update}
@@ -12,9 +11,10 @@ use Rattle.walter_fields.specs.Spellings.{number_spelled}
 use Rattle.walter_fields.proofs.Numbers.{length-number_spelled, same_number}
 use Rattle.walter_names.specs.Names.{tid_spelled}
 use Rattle.walter_names.proofs.Lengths.{length-tid_spelled}
-use Rattle.walter_txcode.specs.Spelling.{numbers_spelled, vector_spelled, updates_spelled, update_spelled, spelling, HasSpelling}
-use Rattle.walter_txcode.proofs.Lengths.{length-numbers_spelled}
-use Rattle.walter_txcode.proofs.Prefixes.{first_two, vector_parts, vector_told, each_spelled}
+use Rattle.walter_txcode.specs.Spelling.{vector_spelled, updates_spelled, spelling, HasSpelling}
+use Rattle.walter_names.specs.Vectors.{numbers_spelled}
+use Rattle.walter_names.proofs.Numbers.{length-numbers_spelled}
+use Rattle.walter_txcode.proofs.Prefixes.{first_two, vector_parts, each_spelled}
 
 -- what follows fronts of one length is the same
 behind_fronts : (xs ys s t : List ℕ) → length xs ≡ length ys → xs ++ s ≡ ys ++ t → s ≡ t

@@ -1,5 +1,5 @@
 -- How many bytes a spelling has.
-use Rattle.std.proofs.Common.{◌≡◌, ℕ, ◌+◌, ◌*◌, ◌-◌, ◌≤◌, List, [], ◌∷◌, ◌++◌, length, replicate, refl, arith}
+use Rattle.std.proofs.Common.{◌≡◌, ℕ, ◌+◌, ◌-◌, ◌≤◌, List, [], ◌∷◌, ◌++◌, length, replicate, refl, arith}
 use Rattle.std.specs.Prelude.{flat_map, sum_by}
 use Rattle.std.proofs.lemmas.List.{length-append, length-replicate}
 use Rattle.std.proofs.lemmas.List.Concat.{flat_map-cons}
@@ -11,18 +11,14 @@ use Rattle.walter_base.specs.declared.names.ObjId.{ObjId}
 use Rattle.walter_base.specs.declared.names.Tid.{Tid}
 use Rattle.walter_base.specs.declared.transaction.Tx.{Tx}
 use Rattle.walter_base.specs.declared.update.Update.{Update}
-use Rattle.walter_base.specs.declared.update.Update.TheVariants.{Write, Add, Del}
+use Rattle.walter_base.specs.declared.update.Update.TheVariants.{Write, Add, Del, Move}
 use Rattle.walter_fields.specs.Spellings.{number_spelled, block_spelled}
 use Rattle.walter_fields.proofs.Numbers.{length-number_spelled}
-use Rattle.walter_names.proofs.Lengths.{length-object_spelled, length-tid_spelled, length-member_spelled, length-block_spelled}
-use Rattle.walter_names.specs.Names.{object_spelled, tid_spelled, member_spelled}
-use Rattle.walter_txcode.specs.Spelling.{numbers_spelled, vector_spelled, value_spelled, update_spelled, updates_spelled, head_spelled, spelling}
-
-pub length-numbers_spelled : (numbers : List ℕ) → length (numbers_spelled numbers) ≡ 8 * length numbers
-length-numbers_spelled [] = refl
-length-numbers_spelled (n ∷ numbers) =
-    let others = length-numbers_spelled numbers in
-    rw flat_map-cons (omega (arith, length-append (number_spelled 8 n) (numbers_spelled numbers), length-number_spelled 8 n))
+use Rattle.walter_names.proofs.Lengths.{length-object_spelled, length-tid_spelled, length-member_spelled, length-move_spelled, length-block_spelled}
+use Rattle.walter_names.specs.Names.{object_spelled, tid_spelled, member_spelled, move_spelled}
+use Rattle.walter_txcode.specs.Spelling.{vector_spelled, value_spelled, update_spelled, updates_spelled, head_spelled, spelling}
+use Rattle.walter_names.specs.Vectors.{numbers_spelled}
+use Rattle.walter_names.proofs.Numbers.{length-numbers_spelled}
 
 pub length-vector_spelled : (format : Format) (vector : List ℕ) → length vector ≤ most_in format
     → length (vector_spelled format vector) ≡ size_of_vector format vector
@@ -38,6 +34,7 @@ pub length-update_spelled : (u : Update) → length (update_spelled u) ≡ size_
 length-update_spelled (Write oid bytes) = omega (arith, length-append (number_spelled 1 1) (value_spelled oid bytes), length-number_spelled 1 1, length-value_spelled oid bytes)
 length-update_spelled (Add oid id) = omega (arith, length-append (number_spelled 1 2) (member_spelled oid id), length-number_spelled 1 2, length-member_spelled oid id)
 length-update_spelled (Del oid id) = omega (arith, length-append (number_spelled 1 3) (member_spelled oid id), length-number_spelled 1 3, length-member_spelled oid id)
+length-update_spelled (Move container to) = omega (arith, length-append (number_spelled 1 4) (move_spelled container to), length-number_spelled 1 4, length-move_spelled container to)
 
 length-each : (us : List Update) → length (flat_map update_spelled us) ≡ sum_by size_of_update us
 length-each [] = refl

@@ -11,32 +11,16 @@ use Rattle.walter_base.specs.declared.names.ObjId.{ObjId}
 use Rattle.walter_base.specs.declared.names.Tid.{Tid}
 use Rattle.walter_base.specs.declared.transaction.Tx.{Tx}
 use Rattle.walter_base.specs.declared.update.Update.{Update}
-use Rattle.walter_base.specs.declared.update.Update.TheVariants.{Write, Add, Del}
+use Rattle.walter_base.specs.declared.update.Update.TheVariants.{Write, Add, Del, Move}
 use Rattle.walter_fields.specs.Spellings.{number_spelled, block_spelled}
 use Rattle.walter_fields.proofs.Numbers.{same_number}
 use Rattle.walter_fields.proofs.Readings.{same_block}
-use Rattle.walter_names.proofs.Prefixes.{regrouped, same_object, same_tid, same_member}
-use Rattle.walter_names.specs.Names.{object_spelled, tid_spelled, IsObject, IsTid, member_spelled}
+use Rattle.walter_names.proofs.Prefixes.{regrouped, same_object, same_tid, same_member, same_move}
+use Rattle.walter_names.specs.Names.{object_spelled, tid_spelled, IsObject, IsTid, member_spelled, move_spelled}
 use Rattle.walter_base.specs.Sizes.{HasShortValue, CanBeSpelled}
-use Rattle.walter_txcode.specs.Spelling.{numbers_spelled, vector_spelled, value_spelled, update_spelled, updates_spelled, head_spelled, spelling, AreFew, IsUpdate, HasSpelling}
-
-each_number : (xs ys x y : List ℕ) → length xs ≡ length ys → AllByRecursion (λ n. n < 2 ^ 64) xs → AllByRecursion (λ n. n < 2 ^ 64) ys
-    → numbers_spelled xs ++ x ≡ numbers_spelled ys ++ y → (xs ≡ ys) × (x ≡ y)
-each_number [] [] x y long fits_x fits_y e = (refl, e)
-each_number [] (n ∷ ys) x y long fits_x fits_y e = absurd (omega (arith, long))
-each_number (m ∷ xs) [] x y long fits_x fits_y e = absurd (omega (arith, long))
-each_number (m ∷ xs) (n ∷ ys) x y long fits_x fits_y e =
-    let low_m : m < 2 ^ 64 = fits_x.0 in
-    let low_n : n < 2 ^ 64 = fits_y.0 in
-    let split : (number_spelled 8 m ++ numbers_spelled xs) ++ x ≡ (number_spelled 8 n ++ numbers_spelled ys) ++ y =
-    ap (λ t. t ++ x) (sym (flat_map-cons (number_spelled 8) m xs)) ∙ e ∙ ap (λ t. t ++ y) (flat_map-cons (number_spelled 8) n ys) in
-    let one = same_number 8 m n (numbers_spelled xs ++ x) (numbers_spelled ys ++ y) (omega (arith, low_m)) (omega (arith, low_n)) (regrouped (number_spelled 8 m) (numbers_spelled xs) x (number_spelled 8 n) (numbers_spelled ys) y split) in
-    let others = each_number xs ys x y (omega (arith, long)) fits_x.1 fits_y.1 one.1 in
-    ((λ i. one.0 i ∷ others.0 i), others.1)
-
-pub same_numbers : (xs ys x y : List ℕ) → length xs ≡ length ys → All (λ n. n < 2 ^ 64) xs → All (λ n. n < 2 ^ 64) ys → numbers_spelled xs ++ x ≡ numbers_spelled ys ++ y → (xs ≡ ys) × (x ≡ y)
-same_numbers xs ys x y long fits_x fits_y e =
-    each_number xs ys x y long (recursion_from_All (λ n. n < 2 ^ 64) xs fits_x) (recursion_from_All (λ n. n < 2 ^ 64) ys fits_y) e
+use Rattle.walter_txcode.specs.Spelling.{vector_spelled, value_spelled, update_spelled, updates_spelled, head_spelled, spelling, AreFew, IsUpdate, HasSpelling}
+use Rattle.walter_names.specs.Vectors.{numbers_spelled}
+use Rattle.walter_names.proofs.Numbers.{same_numbers}
 
 -- in the first format a vector is its numbers, and then 0
 pub vector_parts : (v rest : List ℕ) → vector_spelled First v ++ rest ≡ numbers_spelled v ++ (numbers_spelled (replicate (8 - length v) 0) ++ rest)
@@ -70,21 +54,25 @@ abbrev pub kind_of : Update → ℕ
 kind_of (Write oid bytes) = 1
 kind_of (Add oid id) = 2
 kind_of (Del oid id) = 3
+kind_of (Move container to) = 4
 
 abbrev pub fields_spelled : Update → List ℕ
 fields_spelled (Write oid bytes) = value_spelled oid bytes
 fields_spelled (Add oid id) = member_spelled oid id
 fields_spelled (Del oid id) = member_spelled oid id
+fields_spelled (Move container to) = move_spelled container to
 
 pub update_parts : (u : Update) → update_spelled u ≡ number_spelled 1 (kind_of u) ++ fields_spelled u
 update_parts (Write oid bytes) = refl
 update_parts (Add oid id) = refl
 update_parts (Del oid id) = refl
+update_parts (Move container to) = refl
 
 kind_of-lt : (u : Update) → kind_of u < 256
 kind_of-lt (Write oid bytes) = omega arith
 kind_of-lt (Add oid id) = omega arith
 kind_of-lt (Del oid id) = omega arith
+kind_of-lt (Move container to) = omega arith
 
 -- behind the kind stand the fields of an update of that kind
 pub behind_kind : (k : ℕ) (u : Update) (mid rest : List ℕ) → k < 256 → number_spelled 1 k ++ mid ≡ update_spelled u ++ rest → (k ≡ kind_of u) × (mid ≡ fields_spelled u ++ rest)
@@ -99,12 +87,20 @@ same_fields (Add a m) (Add b n) x y kinds fits_a short_a fits_b short_b e =
     let parts = same_member a b m n x y fits_a fits_b e in ((λ i. Add (parts.0 i) (parts.1 i)), parts.2)
 same_fields (Del a m) (Del b n) x y kinds fits_a short_a fits_b short_b e =
     let parts = same_member a b m n x y fits_a fits_b e in ((λ i. Del (parts.0 i) (parts.1 i)), parts.2)
+same_fields (Move c t) (Move d u) x y kinds fits_a short_a fits_b short_b e =
+    let parts = same_move c d t u x y fits_a fits_b e in ((λ i. Move (parts.0 i) (parts.1 i)), parts.2)
 same_fields (Write a v) (Add b n) x y kinds fits_a short_a fits_b short_b e = absurd (omega (arith, kinds))
 same_fields (Write a v) (Del b n) x y kinds fits_a short_a fits_b short_b e = absurd (omega (arith, kinds))
 same_fields (Add a m) (Write b w) x y kinds fits_a short_a fits_b short_b e = absurd (omega (arith, kinds))
 same_fields (Add a m) (Del b n) x y kinds fits_a short_a fits_b short_b e = absurd (omega (arith, kinds))
 same_fields (Del a m) (Write b w) x y kinds fits_a short_a fits_b short_b e = absurd (omega (arith, kinds))
 same_fields (Del a m) (Add b n) x y kinds fits_a short_a fits_b short_b e = absurd (omega (arith, kinds))
+same_fields (Write a v) (Move d u) x y kinds fits_a short_a fits_b short_b e = absurd (omega (arith, kinds))
+same_fields (Add a m) (Move d u) x y kinds fits_a short_a fits_b short_b e = absurd (omega (arith, kinds))
+same_fields (Del a m) (Move d u) x y kinds fits_a short_a fits_b short_b e = absurd (omega (arith, kinds))
+same_fields (Move c t) (Write b w) x y kinds fits_a short_a fits_b short_b e = absurd (omega (arith, kinds))
+same_fields (Move c t) (Add b n) x y kinds fits_a short_a fits_b short_b e = absurd (omega (arith, kinds))
+same_fields (Move c t) (Del b n) x y kinds fits_a short_a fits_b short_b e = absurd (omega (arith, kinds))
 
 pub same_update : (a b : Update) (x y : List ℕ) → IsUpdate a → HasShortValue a → IsUpdate b → HasShortValue b → update_spelled a ++ x ≡ update_spelled b ++ y → (a ≡ b) × (x ≡ y)
 same_update a b x y fits_a short_a fits_b short_b e =

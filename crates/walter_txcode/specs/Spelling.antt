@@ -8,19 +8,16 @@ use Rattle.walter_base.specs.declared.names.ObjId.{ObjId}
 use Rattle.walter_base.specs.declared.names.Tid.{Tid}
 use Rattle.walter_base.specs.declared.transaction.Tx.{Tx}
 use Rattle.walter_base.specs.declared.update.Update.{Update}
-use Rattle.walter_base.specs.declared.update.Update.TheVariants.{Write, Add, Del}
+use Rattle.walter_base.specs.declared.update.Update.TheVariants.{Write, Add, Del, Move}
 use Rattle.walter_fields.specs.Spellings.{number_spelled, block_spelled}
-use Rattle.walter_names.specs.Names.{object_spelled, tid_spelled, member_spelled, IsObject, IsTid, IsMember}
-
--- eight bytes for each number
-abbrev pub numbers_spelled : List ℕ → List ℕ
-numbers_spelled numbers = flat_map (number_spelled 8) numbers
+use Rattle.walter_names.specs.Names.{object_spelled, tid_spelled, member_spelled, move_spelled, IsObject, IsTid, IsMember, IsMove}
+use Rattle.walter_names.specs.Vectors.{numbers_spelled, told_spelled}
 
 -- in the first format a number for each of eight sites: those of the sites, and then 0; in the second the width, and
 -- the numbers
 abbrev pub vector_spelled : Format → List ℕ → List ℕ
 vector_spelled First vector = numbers_spelled (vector ++ replicate (8 - length vector) 0)
-vector_spelled Second vector = number_spelled 1 (length vector) ++ numbers_spelled vector
+vector_spelled Second vector = told_spelled vector
 
 -- the object and the value of a write
 abbrev pub value_spelled : ObjId → List ℕ → List ℕ
@@ -30,6 +27,7 @@ abbrev pub update_spelled : Update → List ℕ
 update_spelled (Write oid bytes) = number_spelled 1 1 ++ value_spelled oid bytes
 update_spelled (Add oid id) = number_spelled 1 2 ++ member_spelled oid id
 update_spelled (Del oid id) = number_spelled 1 3 ++ member_spelled oid id
+update_spelled (Move container to) = number_spelled 1 4 ++ move_spelled container to
 
 -- their count, and each of them
 abbrev pub updates_spelled : List Update → List ℕ
@@ -53,6 +51,7 @@ abbrev pub IsUpdate : Update → Type 0
 IsUpdate (Write oid bytes) = IsObject oid
 IsUpdate (Add oid id) = IsMember oid id
 IsUpdate (Del oid id) = IsMember oid id
+IsUpdate (Move container to) = IsMove container to
 
 pub record IsInRange (tx : Tx) : Type 0 where
   pub tid : IsTid tx.tid

@@ -12,7 +12,7 @@ use crate::fault::DecodeFault;
 use std::alloc::Global;
 use walter_base::{ObjId, SharedBytes, Update, Updates};
 use walter_fields::{Appender, Cursor, Short};
-use walter_names::{read_member, read_object, write_member, write_object};
+use walter_names::{read_member, read_move, read_object, write_member, write_move, write_object};
 
 /// The most bytes that a value may have.
 const LONGEST_VALUE: usize = 4_096;
@@ -57,6 +57,10 @@ fn read_update(alloc: Global, cursor: &mut Cursor) -> Result<Update, DecodeFault
         3 => {
             let (oid, id) = read_member(cursor)?;
             Ok(Update::Del(oid, id))
+        }
+        4 => {
+            let (container, to) = read_move(cursor)?;
+            Ok(Update::Move(container, to))
         }
         _ => Err(DecodeFault::Unspelled),
     }
@@ -124,6 +128,10 @@ fn write_update(out: &mut Appender, update: &Update)
         Update::Del(oid, id) => {
             out.u8(3);
             write_member(out, *oid, *id);
+        }
+        Update::Move(container, to) => {
+            out.u8(4);
+            write_move(out, *container, *to);
         }
     }
 }

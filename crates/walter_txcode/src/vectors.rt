@@ -5,30 +5,17 @@ ghost use Rattle.walter_base.specs.Sizes.{most_in, size_of_vector};
 ghost use Rattle.walter_base.specs.Vectors.{most_sites};
 ghost use Rattle.walter_fields.specs.Cursors.{Takes};
 ghost use Rattle.walter_txcode.specs.Faults.{IfUnspelled};
-ghost use Rattle.walter_txcode.specs.Spelling.{numbers_spelled, vector_spelled};
+ghost use Rattle.walter_txcode.specs.Spelling.{vector_spelled};
+ghost use Rattle.walter_names.specs.Vectors.{numbers_spelled};
 
 use crate::fault::DecodeFault;
 use byteorder::{BigEndian, ByteOrder};
 use walter_base::{Format, SiteId, Vts};
-use walter_fields::{Appender, Cursor, Short};
+use walter_fields::{Appender, Cursor};
+use walter_names::{read_numbers, write_told};
 
 /// How many sites a vector of the first format has a number for.
 const PADDED: usize = 8;
-
-/// A vector of so many numbers.
-fn read_numbers(cursor: &mut Cursor, count: u8) -> Result<Vts, Short>
-    requires { count ≤ most_sites }
-    ensures taken { IfOk result (λ v. Takes cursor.old cursor.new (numbers_spelled v)) }
-    ensures counted { IfOk result (λ v. length v ≡ count) }
-    ensures range { IfOk result (All (λ number. number < 2 ^ 64)) }
-    ensures short { IsErr result ↔ (length cursor.old.left < 8 * count) }
-{
-    let mut vector = Vts::zero(count);
-    for site in 0..count {
-        vector.raise(SiteId(site), cursor.u64()?);
-    }
-    Ok(vector)
-}
 
 /// So many times the number 0.
 fn read_zeros(cursor: &mut Cursor, count: u8) -> Result<(), DecodeFault>
@@ -115,28 +102,6 @@ fn write_padded(out: &mut Appender, vector: &[u64])
     let mut bytes = [0; 64];
     BigEndian::write_u64_into(&numbers_of(vector), &mut bytes);
     out.bytes(&bytes);
-}
-
-fn write_numbers(out: &mut Appender, numbers: &[u64])
-    requires room { 8 * length numbers.now ≤ out.old.room }
-    ensures bytes { out.new.bytes ≡ out.old.bytes ++ numbers_spelled numbers.now }
-    ensures room { out.new.room + 8 * length numbers.now ≡ out.old.room }
-    ensures ranges { All (λ number. number < 2 ^ 64) numbers.now }
-{
-    for number in numbers {
-        out.u64(*number);
-    }
-}
-
-fn write_told(out: &mut Appender, vector: &[u64])
-    requires sites { length vector.now ≤ most_sites }
-    requires room { 1 + 8 * length vector.now ≤ out.old.room }
-    ensures bytes { out.new.bytes ≡ out.old.bytes ++ vector_spelled Second vector.now }
-    ensures room { out.new.room + (1 + 8 * length vector.now) ≡ out.old.room }
-    ensures ranges { All (λ number. number < 2 ^ 64) vector.now }
-{
-    out.u8(vector.len() as u8);
-    write_numbers(out, vector);
 }
 
 /// Writes the vector's spelling in the format behind what was written.

@@ -20,7 +20,7 @@ fn object_written(update: &Update) -> Option<ObjId>
 {
     match update {
         Update::Write(oid, _) => Some(*oid),
-        Update::Add(_, _) | Update::Del(_, _) => None,
+        Update::Add(_, _) | Update::Del(_, _) | Update::Move(_, _) => None,
     }
 }
 
@@ -167,6 +167,10 @@ fn is_cause(alloc: Global, steps: &[Step], x: Tid, cause: Cause) -> Mem<bool>
             }
             is_unseen_owner(alloc, steps, x, owner)
         }
+        Cause::Moving { oid } => {
+            let written = writes(alloc, &own, oid)?;
+            Ok(written)
+        }
     }
 }
 
@@ -206,6 +210,8 @@ fn same_update(update: &Update, other: &Update) -> bool
         }
         (Update::Add(oid, id), Update::Add(at, name)) => oid == at && id == name,
         (Update::Del(oid, id), Update::Del(at, name)) => oid == at && id == name,
+        (Update::Move(container, to), Update::Move(other, site)) => container == other
+            && to == site,
         _ => false,
     }
 }

@@ -1,6 +1,6 @@
 use Rattle.std.proofs.Common.{refl, arith, subst, ◌≡◌, ◌++◌}
 use Rattle.walter_fields.specs.Spellings.{number_spelled}
-use Rattle.walter_txcode.proofs.Failures.{IfUnspelled-weaker, is_unspelled, is_fault, no_update_at_all, no_write, no_member, no_kind}
+use Rattle.walter_txcode.proofs.Failures.{IfUnspelled-weaker, is_unspelled, is_fault, no_update_at_all, no_write, no_member, no_move, no_kind}
 use Rattle.walter_txcode.proofs.updates.read_update.Goals as goal
 
 pub returns-in_err-u8-clause-fault : goal.returns-in_err-u8-clause-fault
@@ -30,4 +30,12 @@ returns-in_err-oid-in-3-clause-fault c =
 
 pub returns-in_default-clause-fault : goal.returns-in_default-clause-fault
 returns-in_default-clause-fault c =
-    no_kind c.in_ok-u8.field-0 c.args.cursor.now.left c.u8.new.self.left (λ e. omega (arith, e)) (λ e. omega (arith, e)) (λ e. omega (arith, e)) (omega arith) c.in_ok-u8.ensures.taken.front
+    no_kind c.in_ok-u8.field-0 c.args.cursor.now.left c.u8.new.self.left (λ e. omega (arith, e)) (λ e. omega (arith, e)) (λ e. omega (arith, e)) (λ e. omega (arith, e)) (omega arith) c.in_ok-u8.ensures.taken.front
+
+pub returns-in_err-container-in-4-clause-fault : goal.returns-in_err-container-in-4-clause-fault
+returns-in_err-container-in-4-clause-fault c =
+    let exit = c.from_residual-in_err-container-in-4 in
+    let left = c.args.cursor.now.left in
+    let mid = c.u8.new.self.left in
+    is_unspelled exit.result exit.ensures.1
+    (no_move left mid (subst (λ k. left ≡ number_spelled 1 k ++ mid) c.in-4.is c.in_ok-u8.ensures.taken.front) (c.in_err-container-in-4.ensures.short.0 refl))

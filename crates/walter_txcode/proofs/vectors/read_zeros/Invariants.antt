@@ -1,6 +1,6 @@
 use Rattle.std.proofs.Common.{replicate}
 use Rattle.walter_fields.specs.Cursors.{Takes}
-use Rattle.walter_txcode.specs.Spelling.{numbers_spelled}
+use Rattle.walter_names.specs.Vectors.{numbers_spelled}
 use Rattle.walter_txcode.proofs.vectors.read_zeros.Given as goal
 
 abbrev pub invariant-loop : goal.invariant-loop

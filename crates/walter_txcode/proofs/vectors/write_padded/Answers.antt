@@ -1,6 +1,6 @@
 use Rattle.std.proofs.Common.{◌++◌, ap, ◌∙◌}
 use Rattle.walter_fields.specs.Spellings.{number_spelled}
-use Rattle.walter_txcode.specs.Spelling.{numbers_spelled}
+use Rattle.walter_names.specs.Vectors.{numbers_spelled}
 use Rattle.walter_txcode.proofs.vectors.write_padded.Goals as goal
 
 pub returns-clause-bytes : goal.returns-clause-bytes

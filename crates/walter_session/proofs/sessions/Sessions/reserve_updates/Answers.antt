@@ -1,4 +1,4 @@
-use Rattle.std.proofs.Common.{◌≤◌, ◌<◌, ◌∙◌, is_some, ap, sym, subst, refl}
+use Rattle.std.proofs.Common.{◌≤◌, ◌∙◌, is_some, ap, sym, subst, refl}
 use Rattle.std.proofs.lemmas.Bool.{eq-eqb}
 use Rattle.std.proofs.lemmas.Grind.{common_steps}
 use Rattle.std.proofs.Common.{arith, if◌then◌else◌}
@@ -8,7 +8,7 @@ use Rattle.walter_session.specs.Sessions.{table_in, Table, room_of, session_of, 
 use Rattle.walter_base.proofs.ByClient.{changed-same}
 use Rattle.walter_session.proofs.Tables.{room_in, moved, seen_of, seen-changed, changed_sets, rooms, rooms_more, given_ok}
 use Rattle.walter_session.proofs.Links.{never_vacant, found, lent_linked, lent_clients, lent_kept}
-use Rattle.walter_session.proofs.sessions.Sessions.reserve_update.Goals as goal
+use Rattle.walter_session.proofs.sessions.Sessions.reserve_updates.Goals as goal
 
 pub invariant_of-self-2 : goal.invariant_of-self-2
 invariant_of-self-2 c =
@@ -46,8 +46,8 @@ returns c =
     let seen = ap seen_of wrote ∙ seen-changed client (kept_in now).room same before.clients in
     let more = c.make_room.ensures.more in
     record {
-      enough = given_ok c.make_room.result _ _ (λ enough is. subst (λ n. 0 < n) (sym (rooms before _ client _ sets client ∙ ap (λ b. if b then (kept_in now).room else room_of before client) (eq-eqb client client refl))) enough) c.make_room.ensures.enough;
-      had = λ room. c.make_room.ensures.had (subst (λ n. 0 < n) (ap room_in kept) room);
+      enough = given_ok c.make_room.result _ _ (λ enough is. subst (λ n. c.args.more ≤ n) (sym (rooms before _ client _ sets client ∙ ap (λ b. if b then (kept_in now).room else room_of before client) (eq-eqb client client refl))) enough) c.make_room.ensures.enough;
+      had = λ room. c.make_room.ensures.had (subst (λ n. c.args.more ≤ n) (ap room_in kept) room);
       sessions = seen ∙ changed-same client same (sessions_of before) (λ s. refl);
       room = rooms_more before _ client _ sets (subst (λ n. n ≤ (kept_in now).room) (sym (ap room_in kept)) more);
       starts = grind (arith, common_steps);

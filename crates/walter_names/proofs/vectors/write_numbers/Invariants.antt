@@ -1,7 +1,7 @@
 use Rattle.std.proofs.Common.{◌≡◌, ◌<◌, ◌+◌, ◌*◌, ◌^◌, ◌++◌, length, take}
 use Rattle.std.specs.Prelude.{All}
-use Rattle.walter_txcode.specs.Spelling.{numbers_spelled}
-use Rattle.walter_txcode.proofs.vectors.write_numbers.Given as goal
+use Rattle.walter_names.specs.Vectors.{numbers_spelled}
+use Rattle.walter_names.proofs.vectors.write_numbers.Given as goal
 
 -- the numbers so far are written
 abbrev pub invariant-loop-number : goal.invariant-loop-number

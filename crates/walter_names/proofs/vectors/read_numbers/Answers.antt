@@ -1,6 +1,6 @@
 use Rattle.std.proofs.Common.{refl, arith}
-use Rattle.walter_txcode.proofs.Failures.{too_few_numbers, enough_numbers}
-use Rattle.walter_txcode.proofs.vectors.read_numbers.Goals as goal
+use Rattle.walter_names.proofs.Numbers.{too_few_numbers, enough_numbers}
+use Rattle.walter_names.proofs.vectors.read_numbers.Goals as goal
 
 pub returns-in_err-u64-clause-short : goal.returns-in_err-u64-clause-short
 returns-in_err-u64-clause-short c =

@@ -1,8 +1,8 @@
 use Rattle.std.proofs.Common.{◌≡◌, ◌<◌, ◌^◌, length, take, All}
 use Rattle.walter_base.specs.Vectors.{NoneFrom}
 use Rattle.walter_fields.specs.Cursors.{Takes}
-use Rattle.walter_txcode.specs.Spelling.{numbers_spelled}
-use Rattle.walter_txcode.proofs.vectors.read_numbers.Given as goal
+use Rattle.walter_names.specs.Vectors.{numbers_spelled}
+use Rattle.walter_names.proofs.vectors.read_numbers.Given as goal
 
 -- the numbers before the site were read, and the others are 0 still
 abbrev pub invariant-loop-site : goal.invariant-loop-site
