@@ -75,8 +75,8 @@ impl<S: Source + Drop, K: Sink + Drop> Conn<S, K> {
         (source, sink)
     }
 
-    /// What the client sent next. Only the bytes of a Write take memory: where there is none for them its frame is
-    /// held, and the next call reads it anew.
+    /// What the client sent next. Only the bytes of a Write and the numbers of a token take memory: where there is none
+    /// for them their frame is held, and the next call reads it anew.
     #[tactic(auto, using(crate::proofs::InputLemmas::unread_none))]
     pub fn next(&mut self, alloc: Global) -> Mem<Next>
         ensures answer { IfOk result (λ next.

@@ -1,5 +1,5 @@
 -- The scenario that bytes spell, and the place of what is wrong with them: JSON as serde_json reads it, whose outermost
--- value is an object with thirteen keys, of which eight may be absent (docs/FORMATS.md, "Scenarios").
+-- value is an object with fourteen keys, of which nine may be absent (docs/FORMATS.md, "Scenarios").
 use Rattle.std.specs.Prelude.{◌≡◌, ◌⊎◌, ◌≤◌, ◌<◌, ℕ, List, [], length, codes, Option, Some, None, IsSome, IsUtf8}
 use Rattle.serde_json.specs.Data.{Data, Members, no_members, member, object}
 use Rattle.serde_json.specs.Find.{get_member}
