@@ -1,6 +1,6 @@
 -- The containers that are declared, and the catalog that they make.
-use Rattle.std.proofs.Common.{◌≡◌, ◌≢◌, ℕ, zero, suc, ◌+◌, ◌<◌, ◌≤◌, List, [], ◌∷◌, length, map, take, get_or, All, Option, inl, inr, refl, sym, ap, ◌∙◌, subst, arith}
-use Rattle.std.specs.Prelude.{slice_get}
+use Rattle.std.proofs.Common.{◌≡◌, ◌≢◌, ℕ, zero, suc, ◌+◌, ◌<◌, ◌≤◌, List, [], ◌∷◌, length, map, take, get_or, All, Option, Some, None, inl, inr, refl, sym, ap, ◌∙◌, subst, arith}
+use Rattle.std.specs.Prelude.{slice_get, IfSome}
 use Rattle.std.proofs.lemmas.Bool.{cases_lt}
 use Rattle.std.proofs.lemmas.List.{take-map, take_all, length-take}
 use Rattle.std.proofs.lemmas.List.Elements.{All-take}
@@ -103,6 +103,12 @@ is_catalog sites tolerated value given values front catalog e is n of_sites of_t
   containers = containers;
   gives = gives;
 }
+
+-- what was found is named
+pub found_named : (friends : Option (Option ℕ)) (named : Option ℕ) (P : Option ℕ → Type 0) → (friends ≡ None → ⊥)
+    → IfSome friends (λ found. named ≡ found) → IfSome friends P → P named
+found_named None named P some is holds = absurd (some refl)
+found_named (Some found) named P some is holds = subst P (sym is) holds
 
 -- the containers are right, and none of them is named for the friend lists
 pub names_none : (sites : ℕ) (value : Data) (given : Option Data) (values : List Data) (front : List Item)
