@@ -51,7 +51,7 @@ fn count_reply(counts: &mut [u128], reply: &Reply)
     ensures { counts.new ≡ one_more (column reply.now) counts.old }
 {
     let column = column_of(reply);
-    if column < COLUMNS {
+    if column < counts.len() {
         counts[column] += 1;
     }
 }
