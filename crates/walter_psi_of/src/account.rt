@@ -129,7 +129,8 @@ impl Account {
         ensures here { (friends : Option ℕ) (wrote : Option Record) (snapshot : List ℕ) (sessions : Sessions)
             → sessions_at site self.old.sessions.items ≡ named sessions
             → OnOk result (sessions_at site self.new.sessions.items
-            ≡ named (sessions_after friends (Given (Call client call.now)) (Replied reply.now) wrote snapshot sessions)) }
+            ≡ named (sessions_after friends (Given (Call client call.now)) (Replied reply.now) wrote snapshot
+            sessions)) }
         ensures others { (other : SiteId) → same_site site other ≡ false
             → OnOk result (sessions_at other self.new.sessions.items ≡ sessions_at other self.old.sessions.items) }
         ensures commits { self.new.commits.items ≡ self.old.commits.items }

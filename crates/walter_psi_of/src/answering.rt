@@ -54,7 +54,14 @@ fn call_steps(
     ensures { (W : SiteId → Standing) → IsToldOf told.now W → IfOk result (λ steps. few steps
         ≡ answered friends site (W site) wrote.now (Replied reply.now) (Given (CallOf client call.now))) }
 {
-    reply_steps(friends, site, wrote, reply, call, told.session_of(site, client))
+    reply_steps(
+        friends,
+        site,
+        wrote,
+        reply,
+        call,
+        told.session_of(site, client),
+    )
 }
 
 /// The steps of a reply of a site to a call, by the transaction that its client has open.
@@ -72,7 +79,10 @@ fn reply_steps(
     match (reply, session) {
         (Reply::Started(tid), _) => Ok((None, Some(Step::Start(*tid, site)))),
         (Reply::Level(level), _) => Ok((None, level_step(*level, call))),
-        (Reply::Committed(version), _) => Ok((None, committed_step(*version, wrote, call, session))),
+        (Reply::Committed(version), _) => Ok((
+            None,
+            committed_step(*version, wrote, call, session),
+        )),
         (Reply::Done, Some(tid)) => update_steps(friends, call, tid),
         (Reply::Value(value), Some(tid)) => Ok((None, value_step(value, call, tid)?)),
         (Reply::Set(counts), Some(tid)) => Ok((None, set_step(counts, call, tid)?)),

@@ -20,17 +20,21 @@ pub(crate) fn opened_steps(
     match (outcome, event) {
         (
             Outcome::Replied(Reply::Committed(_)),
-            Event::Given(Input::Call {
-                call: Ok(Request::Handover(container, to)),
-                ..
-            }),
+            Event::Given(
+                Input::Call {
+                    call: Ok(Request::Handover(container, to)),
+                    ..
+                },
+            ),
         ) => recorded_steps(site, *container, *to, wrote),
         (
             Outcome::Replied(Reply::Unsure(tid)),
-            Event::Given(Input::Call {
-                call: Ok(Request::Handover(container, to)),
-                ..
-            }),
+            Event::Given(
+                Input::Call {
+                    call: Ok(Request::Handover(container, to)),
+                    ..
+                },
+            ),
         ) => handing_steps(site, *tid, *container, *to),
         _ => (None, None),
     }

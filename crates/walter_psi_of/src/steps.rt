@@ -49,7 +49,8 @@ impl Steps {
 /// the steps of its records first, those of a handover between them, then those of its reply. The trails needn't be
 /// right, and it is one history by every catalog with these friend lists.
 pub fn psi_of(alloc: Global, merged: &Merged, friends: Option<u32>) -> Mem<Steps>
-    ensures { (catalog : Catalog) → catalog.friends ≡ friends → IfOk result (λ steps. steps ≡ psi_of catalog merged.now) }
+    ensures { (catalog : Catalog) → catalog.friends ≡ friends
+        → IfOk result (λ steps. steps ≡ psi_of catalog merged.now) }
 {
     let mut told = Account::new(alloc);
     let mut steps = Vec::new(alloc);

@@ -29,7 +29,8 @@ IsNeeded key =
 -- those, and nine that may be absent
 abbrev pub IsKey : List ℕ → Type 0
 IsKey key =
-    IsNeeded key ⊎ (key ≡ codes "friends") ⊎ (key ≡ codes "capacity") ⊎ (key ≡ codes "areas") ⊎ (key ≡ codes "room") ⊎ (key ≡ codes "format")
+    IsNeeded key ⊎ (key ≡ codes "friends") ⊎ (key ≡ codes "capacity")
+    ⊎ (key ≡ codes "areas") ⊎ (key ≡ codes "room") ⊎ (key ≡ codes "format")
     ⊎ (key ≡ codes "link") ⊎ (key ≡ codes "ticks") ⊎ (key ≡ codes "threads") ⊎ (key ≡ codes "arms")
 
 -- no other key is there

@@ -53,8 +53,8 @@ fn front_of(alloc: Global, values: &[Value]) -> Result<Vec<(u32, Kind, SiteId)>,
     Ok(front)
 }
 
-/// The catalog of the containers that the value spells, for so many sites, of which so many may be lost. The given value
-/// names that of the friend lists; where it is absent there are none.
+/// The catalog of the containers that the value spells, for so many sites, of which so many may be lost. The given
+/// value names that of the friend lists; where it is absent there are none.
 pub fn catalog_of(
     alloc: Global,
     sites: u8,

@@ -30,9 +30,7 @@ const ZERO: [u8; 37] = [
 ];
 
 /// A token of two sites, which sees one commit of the second.
-const TOKEN: [u8; 18] = [
-    0x8B, 2, 0, 0, 0, 0, 0, 0, 0, 0, 0, 0, 0, 0, 0, 0, 0, 1,
-];
+const TOKEN: [u8; 18] = [0x8B, 2, 0, 0, 0, 0, 0, 0, 0, 0, 0, 0, 0, 0, 0, 0, 0, 1];
 
 /// The object 1, 5 is locked for the first transaction of site 1.
 const BUSY: [u8; 27] = [
@@ -119,7 +117,10 @@ pub(crate) static SPELLINGS: [(&str, &[u8]); 48] = [
         "Aborted(Moving { oid: ObjId { container: 1, local: 5 } })",
         &[0x86, 4, 0, 0, 0, 1, 0, 0, 0, 0, 0, 0, 0, 5],
     ),
-    ("Token(Snapshot { numbers: Few(Few { sites: 2, numbers: [0, 1, 0, 0, 0, 0, 0, 0] }) })", &TOKEN),
+    (
+        "Token(Snapshot { numbers: Few(Few { sites: 2, numbers: [0, 1, 0, 0, 0, 0, 0, 0] }) })",
+        &TOKEN,
+    ),
     ("Refused(NotHolder { site: SiteId(1) })", &[0xE0, 16, 1]),
     (
         "Refused(Busy { oid: ObjId { container: 1, local: 5 }, \

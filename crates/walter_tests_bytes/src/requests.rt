@@ -79,7 +79,10 @@ pub(crate) static SPELLINGS: [(&str, &[u8]); 17] = [
         ],
     ),
     ("Handover(1, SiteId(2))", &HANDOVER),
-    ("StartAt(Snapshot { numbers: Few(Few { sites: 2, numbers: [0, 1, 0, 0, 0, 0, 0, 0] }) })", &START_AT),
+    (
+        "StartAt(Snapshot { numbers: Few(Few { sites: 2, numbers: [0, 1, 0, 0, 0, 0, 0, 0] }) })",
+        &START_AT,
+    ),
     ("Token", &[13]),
     ("Befriend(5, 7)", &BEFRIEND),
     ("Unfriend(18446744073709551615, 0)", &UNFRIEND),
