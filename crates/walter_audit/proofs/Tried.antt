@@ -1,5 +1,5 @@
 -- The definitions tried on small journals: a conflict of two sites, an order, and a circle.
-use Rattle.std.proofs.Common.{◌≡◌, ◌<◌, ℕ, zero, suc, List, [], ◌∷◌, refl, ap, arith, inl, inr}
+use Rattle.std.proofs.Common.{◌≡◌, ◌<◌, ℕ, zero, suc, List, [], ◌∷◌, None, refl, ap, arith, inl, inr}
 use Rattle.std.specs.FinMap.{FinMap}
 use Rattle.std.specs.Ordering.{nat_cmp}
 use Rattle.std.specs.Prelude.{Contains}
@@ -62,7 +62,7 @@ both_write = record {
 
 module _ (containers : FinMap nat_cmp Container) where
   abbrev pair : Catalog
-  pair = record { sites = 2; tolerated = 0; containers = containers }
+  pair = record { sites = 2; tolerated = 0; containers = containers; friends = None }
 
   -- a slow commit of the second site alone: its start, and its commit
   abbrev decided : Journals
@@ -115,7 +115,7 @@ module _ (containers : FinMap nat_cmp Container) where
       (Boot 1 ∷ Got (site 0) 1 (counted 0) ∷ Seen (site 0) 1 ∷ Own 1 (counted 1) ∷ [])
 
   abbrev both : Catalog
-  both = record { sites = 2; tolerated = 0; containers = containers }
+  both = record { sites = 2; tolerated = 0; containers = containers; friends = None }
 
   abbrev begun : List Taken
   begun = (site 0, Starts 0 (counted 0)) ∷ (site 1, Starts 0 (counted 1)) ∷ []

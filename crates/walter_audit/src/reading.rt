@@ -153,6 +153,7 @@ fn tolerating_none(catalog: &Catalog) -> Mem<Catalog>
         sites: catalog.sites,
         tolerated: 0,
         containers: catalog.containers.clone()?,
+        friends: catalog.friends,
     })
 }
 

@@ -139,8 +139,8 @@ calls_same client other entries e call apart is =
     ∙ (ap (λ xs. calls_of client entries ++ xs) (append-nil (call_by client e.event) ∙ (ap (λ (v : Event). call_by client v) is ∙ none))
     ∙ append-nil (calls_of client entries))
 
--- what is held is the frame of a Write, and stands in front of what the source has left
-pub awaits_write : (held body : List ℕ) → held ≡ frame body → NeedsMemory body → (left : Option (List ℕ))
+-- what is held is the frame of a Write or of a start at a token, and stands in front of what the source has left
+pub awaits_write_or_start_at : (held body : List ℕ) → held ≡ frame body → NeedsMemory body → (left : Option (List ℕ))
     → IfSome (option_map (λ rest. held ++ rest) left) (λ bytes. (front : List ℕ) × (rest : List ℕ) × (bytes ≡ frame front ++ rest) × NeedsMemory front)
-awaits_write held body is spells None = tt
-awaits_write held body is spells (Some rest) = (body, rest, ap (λ (h : List ℕ). h ++ rest) is, spells)
+awaits_write_or_start_at held body is spells None = tt
+awaits_write_or_start_at held body is spells (Some rest) = (body, rest, ap (λ (h : List ℕ). h ++ rest) is, spells)

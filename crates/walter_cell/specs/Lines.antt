@@ -64,14 +64,15 @@ IsLineAt bytes calls lines number = OfLine lines number (λ line. IsLine bytes c
 abbrev pub HasFaultAt : List (Option LineValue) → ℕ → Type 0
 HasFaultAt lines number = OfLine lines number (λ line. HasFault line)
 
--- what is to come of a client begins with the frame of a Write, where its source tells that
-abbrev pub AwaitsWrite : Incoming → Type 0
-AwaitsWrite incoming = IfSome incoming.unread (λ bytes. (body : List ℕ) × (rest : List ℕ)
+-- what is to come of a client begins with the frame of a Write or of a start at a token, where its source
+-- tells that
+abbrev pub AwaitsWriteOrStartAt : Incoming → Type 0
+AwaitsWriteOrStartAt incoming = IfSome incoming.unread (λ bytes. (body : List ℕ) × (rest : List ℕ)
     × (bytes ≡ frame body ++ rest) × NeedsMemory body)
 
 -- so it is of the client of this number, which has its connection here
-abbrev pub NextIsWrite : List (Option LineValue) → ℕ → Type 0
-NextIsWrite lines number = OfLine lines number (λ line. AwaitsWrite line.incoming)
+abbrev pub NextIsWriteOrStartAt : List (Option LineValue) → ℕ → Type 0
+NextIsWriteOrStartAt lines number = OfLine lines number (λ line. AwaitsWriteOrStartAt line.incoming)
 
 -- behind a call the connection isn't broken
 abbrev pub IsUnbroken : Incoming → Next → Type 0

@@ -10,7 +10,7 @@ ghost use Rattle.walter_cell.specs.declared.answers.Serve.TheVariants as answers
 ghost use Rattle.walter_cell.specs.Builds.{Begins};
 ghost use Rattle.walter_cell.specs.Cells.{arrival, stamp_of_arrival};
 ghost use Rattle.walter_cell.specs.Entries.{IsPlain, IsSpent};
-ghost use Rattle.walter_cell.specs.Lines.{is_here, IsLineAt, NextIsWrite, CanFail, HasFaultAt};
+ghost use Rattle.walter_cell.specs.Lines.{is_here, IsLineAt, NextIsWriteOrStartAt, CanFail, HasFaultAt};
 ghost use Rattle.walter_cell.specs.Nodes.{clock_in, IsSound};
 ghost use Rattle.walter_outbox.specs.Lanes.{put_to, arrived_from, posted, ring_to, ring_from};
 ghost use Rattle.walter_checkpoint.specs.Areas.{shape_by};
@@ -186,8 +186,9 @@ impl<D: Disk + Drop, S: Source + Drop, K: Sink + Drop> Cell<D, S, K> {
         ensures others { AreSameBut number self.old.lines self.new.lines }
         ensures unserved { OnErr result (self.new.lines ≡ self.old.lines) }
         ensures kept { OnErr result (HasSameTrail self.old self.new) }
-        // Where there is memory for the entry, only the bytes of a Write may want more.
-        ensures roomy { OnErr result (0 < self.old.node.room → NextIsWrite self.old.lines number) }
+        // Where there is memory for the entry, only the bytes of a Write and the numbers of a token may
+        // want more.
+        ensures roomy { OnErr result (0 < self.old.node.room → NextIsWriteOrStartAt self.old.lines number) }
 
         // Where it tells its bytes.
         ensures turn { (bytes : List ℕ)

@@ -5,7 +5,7 @@ ghost use Rattle.walter_conn.specs.Calls.{Answers};
 ghost use Rattle.walter_conn.specs.Frames.{Call};
 ghost use Rattle.walter_conn.specs.declared.state.State.TheVariants as state;
 ghost use Rattle.walter_stream.specs.Streams.{Appends};
-ghost use Rattle.walter_cell.specs.Lines.{AwaitsWrite, CanFail, HasFault, IsLine, IsUnbroken, Leaves, line_of};
+ghost use Rattle.walter_cell.specs.Lines.{AwaitsWriteOrStartAt, CanFail, HasFault, IsLine, IsUnbroken, Leaves, line_of};
 ghost use Rattle.walter_cell.specs.Written.{framed_reply, IsCutOff};
 ghost use Rattle.walter_site.specs.Members.{IsShortOutcome};
 
@@ -55,7 +55,7 @@ impl<S: Source + Drop, K: Sink + Drop> Line<S, K> {
         ensures ready { IfOk result (IsUnbroken self.new.incoming) }
         ensures can { HasFault self.new → CanFail S.Source K.Sink }
         ensures same { OnErr result (self.new.incoming ≡ self.old.incoming) }
-        ensures write { OnErr result (AwaitsWrite self.new.incoming) }
+        ensures needs { OnErr result (AwaitsWriteOrStartAt self.new.incoming) }
         ensures sent { self.new.sent ≡ self.old.sent }
     {
         match self.conn.next(alloc) {

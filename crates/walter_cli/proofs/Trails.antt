@@ -8,7 +8,7 @@ use Rattle.walter_base.specs.declared.catalog.Catalog.{Catalog}
 use Rattle.walter_base.proofs.NameTests.{same_site-true}
 use Rattle.walter_base.specs.declared.format.Format.TheVariants.{First}
 use Rattle.walter_base.specs.declared.names.SiteId.{SiteId}
-use Rattle.walter_alone.proofs.Promised.{entry_answered, entry_received, entry_seen, entry_locked, entry_hindered}
+use Rattle.walter_alone.proofs.Promised.{entry_answered, entry_started, entry_received, entry_seen, entry_locked, entry_hindered}
 use Rattle.walter_cell.specs.Cells.{CellValue, IsCell}
 use Rattle.walter_cell.specs.Entries.{HaveRisingStamps}
 use Rattle.walter_machine.specs.Comings.{IsSized}
@@ -22,7 +22,9 @@ use Rattle.walter_conn.proofs.Standings.{calls_of as calls_told}
 use Rattle.walter_conn.specs.Sequences.{HasCalled}
 use Rattle.walter_disk.specs.declared.disk.Disk.{Ghosts}
 use Rattle.walter_linked.specs.Catalogs.{IsWhole}
-use Rattle.walter_linked.proofs.Whole.{trails_got, trails_marks}
+use Rattle.walter_linked.proofs.Whole.{trails_got, trails_marks, trails_held}
+use Rattle.walter_refinement.proofs.Friends.{trails_keep_friends}
+use Rattle.walter_refinement.proofs.Tokens.{trails_keep_tokens}
 use Rattle.walter_refinement.proofs.Trails.{trails_legal, trails_once, trails_named}
 use Rattle.walter_reply.specs.Replies.{FitsFrame}
 use Rattle.walter_reply.proofs.Lengths.{short_fits}
@@ -75,6 +77,7 @@ kept_of catalog layout i (e ∷ older) right = (
     received = λ j seq tx next. entry_received catalog layout i older e j seq tx right.1 next;
     seen = λ j due. entry_seen catalog layout i older e j right.1 due;
     locked = λ j n tid objects asked. entry_locked catalog layout i older e j n tid objects right.1 asked;
+    started = λ caught. entry_started catalog layout i older e right.1 caught;
     hindered = λ j n start conflict met. entry_hindered catalog layout i older e j n start conflict right.1 met;
   },
 )
@@ -217,6 +220,9 @@ module _ {D : Type 0} (g : Ghosts D) (t : Scenario) (bench : BenchValue D) (of :
         got_right = trails_got t.catalog layouts whole trails are;
         aborts_named = trails_named t.catalog layouts whole trails are;
         marks_true = trails_marks t.catalog layouts whole trails are;
+        tokens_kept = trails_keep_tokens t.catalog layouts whole trails are;
+        friends_mutual = trails_keep_friends t.catalog layouts whole trails are;
+        held_once = trails_held t.catalog layouts whole trails are;
         promises_kept = promises_kept t.catalog layouts trails are;
       }
 

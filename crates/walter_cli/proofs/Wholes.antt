@@ -38,13 +38,13 @@ reading_playable bytes s reading =
     let areas = format.has_room.has_areas in
     let capacity = areas.has_capacity in
     let clients = capacity.has_clients in
-    let containers = clients.has_containers in
+    let containers = clients.has_friends.has_containers in
     let tolerated = containers.has_tolerated in
     record {
       some = tolerated.has_sites.some;
       few = format.given.fits;
       fewer = tolerated.fewer;
-      whole = right_whole s.catalog reading.declared containers.are.right reading.containers;
+      whole = right_whole s.catalog reading.declared.items containers.are.right reading.containers;
       within = clients.are.within;
       clients = let few = all_sites s.catalog.sites clients.values s.clients clients.are in let most = tolerated.has_sites.most in omega (arith, few, most);
       threads = by_key (λ o. GivesThreads o s.threads) (IsThreads s.threads) (λ is. (omega (arith, is), omega (arith, is)))

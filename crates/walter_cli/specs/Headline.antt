@@ -10,12 +10,15 @@ use Rattle.walter_conn.specs.Sequences.{AreCalls}
 use Rattle.walter_disk.specs.Disks.{Arming, DiskState, asked}
 use Rattle.walter_engine.specs.Begins.{HasNoRecord}
 use Rattle.walter_engine.specs.Contents.{MayHaveRecords}
+use Rattle.walter_linked.specs.Holders.{AreHeldOnce}
 use Rattle.walter_linked.specs.Marks.{AreGotRight, AreMarksTrue}
 use Rattle.walter_play.specs.Scripts.{IsPlayed, all_arms, laid_after}
 use Rattle.walter_psi.specs.Legal.{IsLegal}
+use Rattle.walter_refinement.specs.Friends.{AreFriendsMutual}
 use Rattle.walter_refinement.specs.Named.{AreNamed}
 use Rattle.walter_refinement.specs.Once.{StandsOnce}
 use Rattle.walter_refinement.specs.Spelled.{psi_of}
+use Rattle.walter_refinement.specs.Tokens.{AreTokensKept}
 use Rattle.walter_rules.specs.declared.entry.Entry.{Entry}
 use Rattle.walter_rules.specs.declared.event.Event.{Event}
 use Rattle.walter_rules.specs.Knowledge.{site_at}
@@ -23,7 +26,7 @@ use Rattle.walter_rules.specs.Layouts.{Layout, header_of}
 use Rattle.walter_rules.specs.Merges.{Named, merge, trail_of, AreLinked}
 use Rattle.walter_rules.specs.Kinds.{IfCall}
 use Rattle.walter_rules.specs.Trails.{opening, standing}
-use Rattle.walter_runs.specs.Runs.{AreRightTrails}
+use Rattle.walter_runs.specs.Runs.{AreRightTrails, stands}
 use Rattle.walter_scenario.specs.declared.place.Detail.{Detail}
 use Rattle.walter_scenario.specs.declared.place.Place.{Place}
 use Rattle.walter_scenario.specs.declared.scenario.Client.{Client}
@@ -97,7 +100,9 @@ pub record LeavesRecords (rack : Racked) (s : Scenario) (i : ℕ) (trail : List 
 -- were, or as the scenario says, and linked, and spell a legal history,
 -- in which no transaction commits twice; what a site has of another stands there as that one's own commit, by its
 -- number; each abort was asked for or names its conflict; at each entry what is committed of another site, or told to be
--- durable or visible, is so; and nothing is given up at a site that is up, but for memory, the disk and its capacity
+-- durable or visible, is so; what had been committed where a token was given is seen by each transaction that starts at
+-- it; the lists of friends agree, at each site and for each transaction; a container is held at one site at most; and
+-- nothing is given up at a site that is up, but for memory, the disk and its capacity
 pub record AreTold (rack : Racked) (s : Scenario) (trails : List (List Entry)) : Type 0 where
   pub layouts : SiteId → Layout
   pub laid : (i : ℕ) → i < s.catalog.sites → Holds rack i (λ bytes. IsLaidFor s bytes (layouts (site_at i)))
@@ -108,6 +113,10 @@ pub record AreTold (rack : Racked) (s : Scenario) (trails : List (List Entry)) :
   pub aborts_named : AreNamed s.catalog (reverse (merge trails))
   pub marks_true : (newer older : List Named) (n : Named) → reverse (merge trails) ≡ newer ++ n ∷ older
       → AreMarksTrue s.catalog older n
+  pub tokens_kept : AreTokensKept s.catalog (reverse (merge trails))
+  pub friends_mutual : AreFriendsMutual s.catalog (reverse (merge trails))
+  pub held_once : (newer older : List Named) → reverse (merge trails) ≡ newer ++ older
+      → AreHeldOnce s.catalog (stands s.catalog older)
   pub promises_kept : KeepAllPromises s.catalog layouts trails
 
 -- the disk of a site behind a run: it failed at least as often as the site's trail says; where it is told, a crash leaves

@@ -5,7 +5,7 @@ ghost use Rattle.walter_base.specs.declared.names.SiteId.{SiteId};
 ghost use Rattle.walter_base.specs.Sizes.{most_in};
 ghost use Rattle.walter_cell.specs.Cells.{CellValue};
 ghost use Rattle.walter_cell.specs.Entries.{IsPlain};
-ghost use Rattle.walter_cell.specs.Lines.{CanFail, HasFaultAt, IsLineAt, NextIsWrite};
+ghost use Rattle.walter_cell.specs.Lines.{CanFail, HasFaultAt, IsLineAt, NextIsWriteOrStartAt};
 ghost use Rattle.walter_cell.specs.Nodes.{is_told};
 ghost use Rattle.walter_cell.specs.Pumps.{TakesSome};
 ghost use Rattle.walter_cluster.specs.Meetings.{HasArrived, HasGathered};
@@ -95,9 +95,10 @@ impl<D: Disk + Drop, S: Source + Drop, K: Sink + Drop> Bench<D, S, K> {
         ensures calls { (home : SiteId) → slice_get self.old.homes number ≡ Some home
             → CallsDisk D.Disk home self.old self.new }
         ensures kept { OnErr result (trails_of self.new.cells ≡ trails_of self.old.cells) }
-        // Where the trail there has memory for the entry, only the bytes of a Write may want more.
+        // Where the trail there has memory for the entry, only the bytes of a Write and the numbers of a token may
+        // want more.
         ensures roomy { OnErr result ((home : SiteId) (c : CellValue D) → slice_get self.old.homes number ≡ Some home
-            → slice_get self.old.cells home.0 ≡ Some c → 0 < c.node.room → NextIsWrite c.lines number) }
+            → slice_get self.old.cells home.0 ≡ Some c → 0 < c.node.room → NextIsWriteOrStartAt c.lines number) }
         ensures arms { KeepsArms (moment_of D.Disk self.old.cells) (moment_of D.Disk self.new.cells) }
     {
         let home = self.homes[number as usize];

@@ -20,10 +20,10 @@ sink_of conn = conn.sink
 abbrev pub incoming : {S K : Type 0} {s : SourceGhosts S} {k : SinkGhosts K} → Conn S K s k → Incoming
 incoming {s = s} conn = record { unread = unread_by s.left conn.input; faults = s.faults (source_of conn); state = conn.state }
 
--- a frame is held whole, since there was no memory for the bytes of its Write
+-- a frame is held whole, since there was no memory for the bytes of its Write or the numbers of its token
 abbrev pub holds_frame : {S K : Type 0} {s : SourceGhosts S} {k : SinkGhosts K} → Conn S K s k → Bool
 holds_frame conn = conn.whole
 
--- the bytes that are held are a frame, whose body spells a Write
-abbrev pub HoldsWrite : {S K : Type 0} {s : SourceGhosts S} {k : SinkGhosts K} → Conn S K s k → Type 0
-HoldsWrite conn = (body : List ℕ) × (held_by conn.input ≡ frame body) × NeedsMemory body
+-- the bytes that are held are a frame, whose body spells a Write or a start at a token
+abbrev pub HoldsWriteOrStartAt : {S K : Type 0} {s : SourceGhosts S} {k : SinkGhosts K} → Conn S K s k → Type 0
+HoldsWriteOrStartAt conn = (body : List ℕ) × (held_by conn.input ≡ frame body) × NeedsMemory body

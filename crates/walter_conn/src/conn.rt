@@ -27,7 +27,7 @@ pub struct Conn<S: Source + Drop, K: Sink + Drop> {
     // The frame of a reply.
     output: Appender,
     state: State,
-    // A whole frame is held, since there was no memory for the bytes of its Write.
+    // A whole frame is held, since there was no memory for its bytes or its numbers.
     whole: bool,
     ghost room: { 65540 ≤ vec_capacity input.buffer },
     ghost made: { input.held ≤ vec_len input.buffer },
@@ -39,7 +39,7 @@ pub struct Conn<S: Source + Drop, K: Sink + Drop> {
 }
 
 impl<S: Source + Drop, K: Sink + Drop> Conn<S, K> {
-    ghost use Rattle.walter_conn.specs.Connections.{source_of, sink_of, incoming, holds_frame, HoldsWrite};
+    ghost use Rattle.walter_conn.specs.Connections.{source_of, sink_of, incoming, holds_frame, HoldsWriteOrStartAt};
 
     /// Reserves the memory for a frame of the client, and for one to it: no byte is made before it is needed. Where
     /// there is none, the source and the sink come back.
@@ -75,8 +75,8 @@ impl<S: Source + Drop, K: Sink + Drop> Conn<S, K> {
         (source, sink)
     }
 
-    /// What the client sent next. Only the bytes of a Write take memory: where there is none for them its frame is
-    /// held, and the next call reads it anew.
+    /// What the client sent next. Only the bytes of a Write and the numbers of a token take memory: where there is none
+    /// for them their frame is held, and the next call reads it anew.
     #[tactic(auto, using(crate::proofs::InputLemmas::unread_none))]
     pub fn next(&mut self, alloc: Global) -> Mem<Next>
         ensures answer { IfOk result (λ next.
@@ -89,7 +89,7 @@ impl<S: Source + Drop, K: Sink + Drop> Conn<S, K> {
         ensures exact { (call : Call) → result ≡ Ok (Next.Frame call)
             → S.left (source_of self.new) ≡ (incoming self.new).unread }
         ensures whole { OnErr result (holds_frame self.new ≡ true) }
-        ensures write { OnErr result (HoldsWrite self.new) }
+        ensures needs { OnErr result (HoldsWriteOrStartAt self.new) }
         ensures anew { holds_frame self.old ≡ true → source_of self.new ≡ source_of self.old }
     {
         match self.state {

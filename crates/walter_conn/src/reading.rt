@@ -8,11 +8,11 @@ use walter_base::{BadFrame, Call};
 use walter_fields::{Mem, NoMemory};
 use walter_request::{RequestFault, decode};
 
-/// What the body of a frame calls for. Only the bytes of a Write take memory.
+/// What the body of a frame calls for. Only the bytes of a Write and the numbers of a token take memory.
 pub fn read_call(alloc: Global, body: &[u8]) -> Mem<Call>
     requires { length body.now ≤ 65536 }
     ensures call { IfOk result (λ call. CallsFor body.now call) }
-    ensures write { OnErr result (NeedsMemory body.now) }
+    ensures needs { OnErr result (NeedsMemory body.now) }
 {
     match decode(alloc, body) {
         Ok(request) => Ok(Ok(request)),

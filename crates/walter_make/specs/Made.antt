@@ -1,5 +1,5 @@
 -- The scenario that is made from a number (docs/FORMATS.md, "Made scenarios and summaries").
-use Rattle.std.specs.Prelude.{ℕ, ◌-◌, ◌%◌, nat_eq, List, [], ◌∷◌, map, flat_map, if◌then◌else◌}
+use Rattle.std.specs.Prelude.{ℕ, ◌-◌, ◌%◌, nat_eq, List, [], ◌∷◌, None, map, flat_map, if◌then◌else◌}
 use Rattle.std.specs.List.{range_with_len}
 use Rattle.walter_base.specs.declared.catalog.Catalog.{Catalog}
 use Rattle.walter_base.specs.declared.format.Format.TheVariants.{First}
@@ -25,12 +25,13 @@ site k = record { 0 = k % 3 }
 abbrev pub made_container : ℕ → Item
 made_container c = (c, if is_odd c then Regular else Cset, site (c - 1))
 
--- of three sites one may be lost, and the containers are 1 to 6
+-- of three sites one may be lost, and the containers are 1 to 6; there are no friend lists
 abbrev pub made_catalog : Catalog
 made_catalog = record {
   sites = 3;
   tolerated = 1;
   containers = containers_of (map made_container (range_with_len 1 6));
+  friends = None;
 }
 
 -- a request as a client sends it: its length in four bytes, and its bytes

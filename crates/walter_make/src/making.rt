@@ -71,7 +71,7 @@ fn made_catalog(alloc: Global) -> Mem<Catalog>
         (5, Kind::Regular, SiteId(1)),
         (6, Kind::Cset, SiteId(2)),
     ];
-    let Ok(catalog) = Catalog::build(alloc, SITES, 1, &containers) else {
+    let Ok(catalog) = Catalog::build(alloc, SITES, 1, &containers, None) else {
         return Err(NoMemory);
     };
     Ok(catalog)

@@ -35,7 +35,7 @@ module _ (catalog : Catalog) (i : SiteId) (S : Standing) (e : Entry) where
   snapshot_by kept = vector_of catalog (recorded catalog i e.came.wrote (settled catalog i kept S).knows)
 
   abbrev sessions_by : Option Record → Sessions
-  sessions_by kept = sessions_after e.event e.came.outcome e.came.wrote (snapshot_by kept) S.knows.sessions
+  sessions_by kept = sessions_after catalog.friends e.event e.came.outcome e.came.wrote (snapshot_by kept) S.knows.sessions
 
   abbrev knows_by : Option Record → Knowledge
   knows_by kept = after catalog i (settled catalog i kept S).knows e.event e.came.outcome e.came.wrote
@@ -113,7 +113,7 @@ module _ (catalog : Catalog) (older : List Named) (i : SiteId) (e : Entry) (was 
   -- and where it doesn't
   pub told_answered : goes_down e.event e.came.outcome ≡ false
       → ((wrote : Option Record) (snapshot : List ℕ) (ss : Sessions) → sessions_at i was.sessions.items ≡ named ss
-      → sessions_at i now.sessions.items ≡ named (sessions_after e.event e.came.outcome wrote snapshot ss))
+      → sessions_at i now.sessions.items ≡ named (sessions_after catalog.friends e.event e.came.outcome wrote snapshot ss))
       → IsToldOf now (stands catalog run)
   told_answered stays here = record {
     sessions = sessions_told

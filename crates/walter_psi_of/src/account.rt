@@ -1,16 +1,14 @@
 //! What the entries so far tell of sessions and commits, as far as later steps need it.
-ghost use Rattle.std.specs.Prelude.{◌≡◌, ◌-◌, ◌++◌, ◌∷◌, [], ℕ, not, filter, slice_get, List, Option, Result, false, OnOk};
+ghost use Rattle.std.specs.Prelude.{◌≡◌, ◌-◌, ◌++◌, ◌∷◌, [], ℕ, not, filter, slice_get, List, Option, false, OnOk};
 ghost use Rattle.walter_base.specs.declared.catalog.Catalog.{Catalog};
-ghost use Rattle.walter_base.specs.declared.message.BadFrame.{BadFrame};
 ghost use Rattle.walter_base.specs.declared.message.Record.{Record};
-ghost use Rattle.walter_base.specs.declared.message.Request.{Request};
 ghost use Rattle.walter_base.specs.declared.names.SiteId.{SiteId};
 ghost use Rattle.walter_base.specs.ByClient.{of_client};
 ghost use Rattle.walter_base.specs.Names.{same_site};
 ghost use Rattle.walter_rules.specs.declared.event.Event.TheVariants.{Given};
 ghost use Rattle.walter_rules.specs.declared.event.Input.TheVariants.{Call};
 ghost use Rattle.walter_rules.specs.declared.outcome.Outcome.TheVariants.{Replied};
-ghost use Rattle.walter_rules.specs.Learning.{sessions_after};
+ghost use Rattle.walter_rules.specs.Learning.{closed_by, sessions_after};
 ghost use Rattle.walter_rules.specs.Merges.{Named};
 ghost use Rattle.walter_rules.specs.Sessions.{Sessions};
 ghost use Rattle.walter_rules.specs.Standing.{goes_down};
@@ -18,7 +16,7 @@ ghost use Rattle.walter_runs.specs.Runs.{stands};
 ghost use Rattle.walter_psi_of.specs.Accounts.{sessions_at, commits_of, named, own_commit, is_at, is_of, IsToldOf};
 
 use std::alloc::Global;
-use walter_base::{MaybeRecord, Mem, Record, Reply, SiteId, Tid};
+use walter_base::{Call as CallMade, MaybeRecord, Mem, Record, Reply, Request, SiteId, Tid};
 use walter_rules::{Entry, Event, Input, Outcome};
 
 /// A session, by what steps tell of it: the transaction that a client has at a site.
@@ -110,40 +108,60 @@ impl Account {
 
     /// Goes on with the answer of a site, where the event is a call.
     fn answer(&mut self, site: SiteId, event: &Event, outcome: &Outcome) -> Mem<()>
-        ensures here { (wrote : Option Record) (snapshot : List ℕ) (sessions : Sessions)
+        ensures here { (friends : Option ℕ) (wrote : Option Record) (snapshot : List ℕ) (sessions : Sessions)
             → sessions_at site self.old.sessions.items ≡ named sessions
             → OnOk result (sessions_at site self.new.sessions.items
-            ≡ named (sessions_after event.now outcome.now wrote snapshot sessions)) }
+            ≡ named (sessions_after friends event.now outcome.now wrote snapshot sessions)) }
         ensures others { (other : SiteId) → same_site site other ≡ false
             → OnOk result (sessions_at other self.new.sessions.items ≡ sessions_at other self.old.sessions.items) }
         ensures commits { self.new.commits.items ≡ self.old.commits.items }
     {
         match (event, outcome) {
-            (Event::Given(Input::Call { client, .. }), Outcome::Replied(reply)) => {
-                self.reply(site, *client, reply)
+            (Event::Given(Input::Call { client, call }), Outcome::Replied(reply)) => {
+                self.reply(site, *client, call, reply)
             }
             _ => Ok(()),
         }
     }
 
-    /// Goes on with a reply of a site to a client.
-    fn reply(&mut self, site: SiteId, client: u32, reply: &Reply) -> Mem<()>
-        ensures here { (call : Result Request BadFrame) (wrote : Option Record)
-            (snapshot : List ℕ) (sessions : Sessions) → sessions_at site self.old.sessions.items ≡ named sessions
+    /// Goes on with a reply of a site to a call of a client.
+    fn reply(&mut self, site: SiteId, client: u32, call: &CallMade, reply: &Reply) -> Mem<()>
+        ensures here { (friends : Option ℕ) (wrote : Option Record) (snapshot : List ℕ) (sessions : Sessions)
+            → sessions_at site self.old.sessions.items ≡ named sessions
             → OnOk result (sessions_at site self.new.sessions.items
-            ≡ named (sessions_after (Given (Call client call)) (Replied reply.now) wrote snapshot sessions)) }
+            ≡ named (sessions_after friends (Given (Call client call.now)) (Replied reply.now) wrote snapshot
+            sessions)) }
         ensures others { (other : SiteId) → same_site site other ≡ false
             → OnOk result (sessions_at other self.new.sessions.items ≡ sessions_at other self.old.sessions.items) }
         ensures commits { self.new.commits.items ≡ self.old.commits.items }
     {
         match reply {
             Reply::Started(tid) => self.begin(site, client, *tid),
-            Reply::Committed(_) | Reply::Aborted(_) | Reply::Ended | Reply::Unsure(_) => {
+            Reply::Committed(_) | Reply::Unsure(_) => {
+                self.close(site, client, call);
+                Ok(())
+            }
+            Reply::Aborted(_) | Reply::Ended => {
                 self.end(site, client);
                 Ok(())
             }
             _ => Ok(()),
         }
+    }
+
+    /// What a client asked is committed, or isn't sure to be. That ends its transaction at the site; a handover has one
+    /// of its own, and ends none.
+    fn close(&mut self, site: SiteId, client: u32, call: &CallMade)
+        ensures here { (sessions : Sessions) → sessions_at site self.old.sessions.items ≡ named sessions
+            → sessions_at site self.new.sessions.items ≡ named (closed_by (Given (Call client call.now)) sessions) }
+        ensures others { (other : SiteId) → same_site site other ≡ false
+            → sessions_at other self.new.sessions.items ≡ sessions_at other self.old.sessions.items }
+        ensures commits { self.new.commits.items ≡ self.old.commits.items }
+    {
+        if let Ok(Request::Handover(_, _)) = call {
+            return;
+        }
+        self.end(site, client);
     }
 
     /// A client begins a transaction at a site.

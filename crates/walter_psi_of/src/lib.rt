@@ -3,6 +3,8 @@
 
 mod account;
 mod answering;
+mod few;
+mod opening;
 mod recording;
 mod steps;
 

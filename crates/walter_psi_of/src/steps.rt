@@ -6,9 +6,12 @@ ghost use Rattle.walter_base.specs.declared.names.SiteId.{SiteId};
 ghost use Rattle.walter_refinement.specs.Spelled.{steps_of, psi_of};
 ghost use Rattle.walter_rules.specs.Standing.{Standing};
 ghost use Rattle.walter_psi_of.specs.Accounts.{IsToldOf};
+ghost use Rattle.walter_psi_of.specs.Few.{few};
 
 use crate::account::Account;
-use crate::answering::answer_step;
+use crate::answering::answer_steps;
+use crate::few::Few;
+use crate::opening::opened_steps;
 use crate::recording::record_step;
 use std::alloc::Global;
 use std::marker::Model;
@@ -42,29 +45,47 @@ impl Steps {
     }
 }
 
-/// The history that the merge spells (docs/MODEL.md): of each entry the steps of its records first, then that of its
-/// reply. The trails needn't be right, and it is one history by every catalog.
-pub fn psi_of(alloc: Global, merged: &Merged) -> Mem<Steps>
-    ensures { (catalog : Catalog) → IfOk result (λ steps. steps ≡ psi_of catalog merged.now) }
+/// The history that the merge spells (docs/MODEL.md), where this container has the friend lists, or none: of each entry
+/// the steps of its records first, those of a handover between them, then those of its reply. The trails needn't be
+/// right, and it is one history by every catalog with these friend lists.
+pub fn psi_of(alloc: Global, merged: &Merged, friends: Option<u32>) -> Mem<Steps>
+    ensures { (catalog : Catalog) → catalog.friends ≡ friends
+        → IfOk result (λ steps. steps ≡ psi_of catalog merged.now) }
 {
     let mut told = Account::new(alloc);
     let mut steps = Vec::new(alloc);
     for (site, entry) in merged.as_slice() {
-        add_steps(&mut steps, &told, *site, entry)?;
+        add_steps(&mut steps, &told, friends, *site, entry)?;
         told.learn(*site, entry)?;
     }
     Ok(Steps { steps })
 }
 
 /// Adds the steps of an entry of a site, by what was told before it.
-fn add_steps(steps: &mut Vec<Step>, told: &Account, site: SiteId, entry: &Entry) -> Mem<()>
+fn add_steps(
+    steps: &mut Vec<Step>,
+    told: &Account,
+    friends: Option<u32>,
+    site: SiteId,
+    entry: &Entry,
+) -> Mem<()>
     ensures { (W : SiteId → Standing) → IsToldOf told.now W
-        → OnOk result (steps.new.items ≡ steps.old.items ++ steps_of W site entry.now) }
+        → OnOk result (steps.new.items ≡ steps.old.items ++ steps_of friends W site entry.now) }
 {
-    add_step(steps, record_step(told, site, &entry.came.kept)?)?;
-    add_step(steps, record_step(told, site, &entry.came.wrote)?)?;
-    let answer = answer_step(told, site, &entry.event, &entry.came.outcome)?;
-    add_step(steps, answer)
+    let Entry { event, came, .. } = entry;
+    add_step(steps, record_step(told, site, &came.kept)?)?;
+    add_few(steps, opened_steps(site, &came.wrote, event, &came.outcome))?;
+    add_step(steps, record_step(told, site, &came.wrote)?)?;
+    let answer = answer_steps(told, friends, site, &came.wrote, event, &came.outcome)?;
+    add_few(steps, answer)
+}
+
+fn add_few(steps: &mut Vec<Step>, more: Few) -> Mem<()>
+    ensures { OnOk result (steps.new.items ≡ steps.old.items ++ few more) }
+{
+    let (first, second) = more;
+    add_step(steps, first)?;
+    add_step(steps, second)
 }
 
 fn add_step(steps: &mut Vec<Step>, step: Option<Step>) -> Mem<()>

@@ -3,7 +3,7 @@ use Rattle.std.specs.Prelude.{◌≡◌, ℕ, ◌+◌, nat_eq, List, [], ◌∷�
 use Rattle.std.specs.Fmt.{decimal}
 use Rattle.std.specs.List.{range_with_len}
 use Rattle.walter_base.specs.declared.message.Reply.{Reply}
-use Rattle.walter_base.specs.declared.message.Reply.TheVariants.{Started, Ended, Done, Value, Set, Count, Committed, Aborted, Deciding, Level, Unsure, Refused}
+use Rattle.walter_base.specs.declared.message.Reply.TheVariants.{Started, Ended, Done, Value, Set, Count, Committed, Aborted, Deciding, Level, Unsure, Refused, Token}
 use Rattle.walter_rules.specs.declared.entry.Entry.{Entry}
 use Rattle.walter_rules.specs.declared.event.Event.{Event}
 use Rattle.walter_rules.specs.declared.event.Event.TheVariants.{Given}
@@ -26,7 +26,7 @@ call_replies trail = flat_map (λ e. call_reply e.event e.came.outcome) trail
 abbrev pub all_replies : List (List Entry) → List Reply
 all_replies trails = flat_map call_replies trails
 
--- the column in which a reply is counted, of ten; a Value, a Set and a Count are read
+-- the column in which a reply is counted, of ten; a Value, a Set and a Count are read. A token is counted in none of them
 abbrev pub column : Reply → ℕ
 column (Started tid) = 0
 column Ended = 1
@@ -40,6 +40,7 @@ column (Deciding tid) = 6
 column (Level level) = 7
 column (Unsure tid) = 8
 column (Refused refusal) = 9
+column (Token vector) = 10
 
 -- how many replies are in a column, and in each
 abbrev pub in_column : List Reply → ℕ → ℕ

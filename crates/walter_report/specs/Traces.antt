@@ -7,7 +7,7 @@ use Rattle.walter_base.specs.declared.format.Format.TheVariants.{First}
 use Rattle.walter_base.specs.declared.message.BadFrame.{BadFrame}
 use Rattle.walter_base.specs.declared.message.Record.{Record}
 use Rattle.walter_base.specs.declared.message.Request.{Request}
-use Rattle.walter_base.specs.declared.message.Request.TheVariants.{Start, Read, Write, SetAdd, SetDel, SetRead, SetReadId, Commit, Abort, Level}
+use Rattle.walter_base.specs.declared.message.Request.TheVariants.{Start, Read, Write, SetAdd, SetDel, SetRead, SetReadId, Commit, Abort, Level, Handover, StartAt, Token, Befriend, Unfriend}
 use Rattle.walter_base.specs.declared.packet.Packet.{Packet}
 use Rattle.walter_base.specs.declared.packet.Packet.TheVariants.{Propagate, Ack, Dsmark, Visible, Prepare, Vote, Release, Released}
 use Rattle.walter_base.specs.declared.names.SiteId.{SiteId}
@@ -64,6 +64,11 @@ call_word (Ok (SetReadId oid id)) = codes "setreadid"
 call_word (Ok Commit) = codes "commit"
 call_word (Ok Abort) = codes "abort"
 call_word (Ok (Level tid)) = codes "level"
+call_word (Ok (Handover container to)) = codes "handover"
+call_word (Ok (StartAt token)) = codes "startat"
+call_word (Ok Token) = codes "token"
+call_word (Ok (Befriend a b)) = codes "befriend"
+call_word (Ok (Unfriend a b)) = codes "unfriend"
 call_word (Err bad) = codes "bad"
 
 -- the name of a packet's kind

@@ -50,13 +50,15 @@ fn count_reply(counts: &mut [u128], reply: &Reply)
     requires room { All (λ n. n + 1 < 2 ^ 128) counts.old }
     ensures { counts.new ≡ one_more (column reply.now) counts.old }
 {
-    counts[column_of(reply)] += 1;
+    let column = column_of(reply);
+    if column < counts.len() {
+        counts[column] += 1;
+    }
 }
 
-// The column in which a reply is counted.
+// The column in which a reply is counted; a token is counted in none, and its column is behind the last.
 fn column_of(reply: &Reply) -> usize
-    ensures column { result ≡ column reply.now }
-    ensures there { result < 10 }
+    ensures { result ≡ column reply.now }
 {
     match reply {
         Reply::Started(_) => 0,
@@ -69,5 +71,6 @@ fn column_of(reply: &Reply) -> usize
         Reply::Level(_) => 7,
         Reply::Unsure(_) => 8,
         Reply::Refused(_) => 9,
+        Reply::Token(_) => COLUMNS,
     }
 }

@@ -211,6 +211,11 @@ fn word_of_call(call: &Call) -> &'static str
         Ok(Request::Commit) => "commit",
         Ok(Request::Abort) => "abort",
         Ok(Request::Level(_)) => "level",
+        Ok(Request::Handover(_, _)) => "handover",
+        Ok(Request::StartAt(_)) => "startat",
+        Ok(Request::Token) => "token",
+        Ok(Request::Befriend(_, _)) => "befriend",
+        Ok(Request::Unfriend(_, _)) => "unfriend",
         Err(_) => "bad",
     }
 }

@@ -1,6 +1,6 @@
 -- The containers that are declared, and the catalog that they make.
-use Rattle.std.proofs.Common.{◌≡◌, ◌≢◌, ℕ, zero, suc, ◌+◌, ◌<◌, ◌≤◌, List, [], ◌∷◌, length, map, take, get_or, All, inl, inr, refl, sym, ap, ◌∙◌, subst, arith}
-use Rattle.std.specs.Prelude.{slice_get}
+use Rattle.std.proofs.Common.{◌≡◌, ◌≢◌, ℕ, zero, suc, ◌+◌, ◌<◌, ◌≤◌, List, [], ◌∷◌, length, map, take, get_or, All, Option, Some, None, inl, inr, refl, sym, ap, ◌∙◌, subst, arith}
+use Rattle.std.specs.Prelude.{slice_get, IfSome}
 use Rattle.std.proofs.lemmas.Bool.{cases_lt}
 use Rattle.std.proofs.lemmas.List.{take-map, take_all, length-take}
 use Rattle.std.proofs.lemmas.List.Elements.{All-take}
@@ -12,9 +12,10 @@ use Rattle.walter_base.specs.declared.names.Kind.TheVariants.{Regular, Cset}
 use Rattle.walter_base.specs.Catalogs.{Item, IsWrong, too_many, falls, nowhere, AreRight, AreRightBelow, containers_of}
 use Rattle.walter_base.specs.Vectors.{most_sites}
 use Rattle.walter_scenario.specs.declared.place.Place.TheVariants.{Containers}
-use Rattle.walter_scenario.specs.Faults.{IsItem, HaveContainers}
+use Rattle.walter_scenario.specs.Faults.{IsItem, HaveContainers, NamesNoFriends}
 use Rattle.walter_scenario.specs.Fronts.{IsContainer, IsFront, IsCatalog}
 use Rattle.walter_scenario.specs.Parts.{list, kind_word, container_spelled}
+use Rattle.walter_scenario.specs.Scenarios.{GivesFriends}
 use Rattle.walter_scenario.proofs.Spelling.{no_more, same_items, spelled_front}
 use Rattle.walter_scenario.proofs.Wrong.{first_wrong}
 
@@ -82,12 +83,13 @@ pub same_declared : (cs ds : List Item) → All IsContainer cs → All IsContain
 same_declared cs ds a b e = same_items container_spelled IsContainer same_container cs ds a b e
 
 -- the catalog of all values
-pub is_catalog : (sites tolerated : ℕ) (value : Data) (values : List Data) (front : List Item) (catalog : Catalog)
+pub is_catalog : (sites tolerated : ℕ) (value : Data) (given : Option Data) (values : List Data) (front : List Item)
+    (catalog : Catalog)
     → value ≡ list values → IsFront values front
     → length front ≡ length values → catalog.sites ≡ sites → catalog.tolerated ≡ tolerated
     → catalog.containers ≡ containers_of front → AreRight sites front
-    → IsCatalog sites tolerated value catalog
-is_catalog sites tolerated value values front catalog e is n of_sites of_tolerated containers right = record {
+    → GivesFriends front given catalog.friends → IsCatalog sites tolerated value given catalog
+is_catalog sites tolerated value given values front catalog e is n of_sites of_tolerated containers right gives = record {
   values = values;
   declared = front;
   spelled = e;
@@ -99,6 +101,29 @@ is_catalog sites tolerated value values front catalog e is n of_sites of_tolerat
   of_sites = of_sites;
   of_tolerated = of_tolerated;
   containers = containers;
+  gives = gives;
+}
+
+-- what was found is named
+pub found_named : (friends : Option (Option ℕ)) (named : Option ℕ) (P : Option ℕ → Type 0) → (friends ≡ None → ⊥)
+    → IfSome friends (λ found. named ≡ found) → IfSome friends P → P named
+found_named None named P some is holds = absurd (some refl)
+found_named (Some found) named P some is holds = subst P (sym is) holds
+
+-- the containers are right, and none of them is named for the friend lists
+pub names_none : (sites : ℕ) (value : Data) (given : Option Data) (values : List Data) (front : List Item)
+    → value ≡ list values → IsFront values front → length front ≡ length values → AreRight sites front
+    → ((friends : Option ℕ) → ¬ GivesFriends front given friends) → NamesNoFriends sites value given
+names_none sites value given values front e is n right none = record {
+  values = values;
+  declared = front;
+  spelled = e;
+  are = record {
+    spelled = sym (take_all (length front) values (omega (arith, n))) ∙ is.spelled;
+    numbers = is.declared;
+    right = right;
+  };
+  none = none;
 }
 
 -- the value behind a right front spells no container

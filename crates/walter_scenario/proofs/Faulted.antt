@@ -1,6 +1,6 @@
--- What is wrong with the room, the format, the arms or the steps is wrong with the bytes.
-use Rattle.std.proofs.Common.{◌≡◌, ◌≤◌, ◌<◌, ℕ, List, length, Some, sym, ap, ◌∙◌, subst}
-use Rattle.serde_json.specs.Data.{Members}
+-- What is wrong with the containers, the friends, the room, the format, the arms or the steps is wrong with the bytes.
+use Rattle.std.proofs.Common.{◌≡◌, ◌≤◌, ◌<◌, ℕ, List, length, Option, Some, sym, ap, ◌∙◌, subst}
+use Rattle.serde_json.specs.Data.{Data, Members}
 use Rattle.serde_json.specs.View.{view}
 use Rattle.walter_base.specs.declared.catalog.Catalog.{Catalog}
 use Rattle.walter_base.specs.declared.format.Format.{Format}
@@ -14,39 +14,84 @@ use Rattle.walter_scenario.specs.declared.place.ReadFault.TheVariants.{Refused, 
 use Rattle.walter_scenario.specs.declared.scenario.Arm.{Arm}
 use Rattle.walter_scenario.specs.declared.scenario.Client.{Client}
 use Rattle.walter_scenario.specs.declared.settings.Settings.{Settings}
-use Rattle.walter_scenario.specs.Faults.{IsGivenArmsFault, IsStepsFault}
+use Rattle.walter_scenario.specs.Faults.{IsCatalogFault, at_container, at_friends, IsGivenArmsFault, IsStepsFault}
 use Rattle.walter_scenario.specs.Fronts.{IsCatalog, ListsClients}
 use Rattle.walter_scenario.specs.Members.{data_in, AreParts, HasGrounds, AreSettingsOf, IsFaultOf, IsFaultOn}
-use Rattle.walter_scenario.specs.Parts.{whole}
-use Rattle.walter_scenario.specs.Scenarios.{GivesCapacity, GivesAreas, GivesRoom, GivesFormat, GivesLink, GivesTicks, GivesThreads, GivesArms, HasKeys, HasAreas, HasThreads, IsRefusedAt}
+use Rattle.walter_scenario.specs.Parts.{whole, Declared}
+use Rattle.walter_scenario.specs.Scenarios.{GivesFriends, GivesCapacity, GivesAreas, GivesRoom, GivesFormat, GivesLink, GivesTicks, GivesThreads, GivesArms, HasKeys, HasTolerated, HasAreas, HasThreads, IsRefusedAt}
+
+-- what is declared of the containers in a catalog
+pub declared_by : {sites tolerated : ℕ} {value : Data} {given : Option Data} {catalog : Catalog}
+    → IsCatalog sites tolerated value given catalog → Declared
+declared_by {catalog = catalog} is = record { items = is.declared; friends = catalog.friends }
+
+-- what is wrong with the containers or the friends is wrong with the bytes
+pub fault_of_catalog : (parts : Parts) (sites tolerated : ℕ) (fault : ReadFault)
+    → (1 ≤ sites) × (sites ≤ most_sites) → view parts.sites.now ≡ whole sites
+    → tolerated < sites → view parts.tolerated.now ≡ whole tolerated
+    → IsCatalogFault sites (view parts.containers.now) (data_in parts.friends) fault → IsFaultOf parts fault
+fault_of_catalog parts sites tolerated NoMemory some s fewer t wrong bytes ms keys are = tt
+fault_of_catalog parts sites tolerated (Refused place detail) some s fewer t wrong bytes ms keys are =
+    let has : HasTolerated bytes ms sites tolerated = record {
+      has_sites = record {
+        has_keys = keys;
+        spelled = are.sites ∙ ap Some s;
+        some = some.0;
+        most = some.1;
+      };
+      spelled = are.tolerated ∙ ap Some t;
+      fewer = fewer;
+    } in
+    elim wrong [
+      | at_container item ↦
+          subst (IsRefusedAt bytes) (sym item.named)
+          (ms, sites, tolerated, view parts.containers.now, has, are.containers, item.wrong)
+      | at_friends named none ↦
+          subst (IsRefusedAt bytes) (sym named) (
+            ms,
+            sites,
+            tolerated,
+            none.declared,
+            record {
+              has_tolerated = has;
+              values = none.values;
+              spelled = are.containers ∙ ap Some none.spelled;
+              are = none.are;
+            },
+            λ friends given. none.none friends (subst (λ value. GivesFriends none.declared value friends) are.friends given),
+          )
+    ]
 
 -- what was read up to the areas
 areas_read : (parts : Parts) (sites tolerated : ℕ) (catalog : Catalog) (clients : List Client) (capacity areas : ℕ)
     → (1 ≤ sites) × (sites ≤ most_sites) → view parts.sites.now ≡ whole sites
     → tolerated < sites → view parts.tolerated.now ≡ whole tolerated
-    → (is : IsCatalog sites tolerated (view parts.containers.now) catalog)
+    → (is : IsCatalog sites tolerated (view parts.containers.now) (data_in parts.friends) catalog)
     → ListsClients sites (view parts.clients.now) clients
     → GivesCapacity (data_in parts.capacity) capacity → GivesAreas (data_in parts.areas) areas capacity
     → (bytes : List ℕ) (ms : Members) → HasKeys bytes ms → AreParts ms parts
-    → HasAreas bytes ms sites tolerated is.declared clients capacity areas
+    → HasAreas bytes ms sites tolerated (declared_by is) clients capacity areas
 areas_read parts sites tolerated catalog clients capacity areas some s fewer t is lists in_bytes in_areas bytes ms keys
     are = record {
       has_capacity = record {
         has_clients = record {
-          has_containers = record {
-            has_tolerated = record {
-              has_sites = record {
-                has_keys = keys;
-                spelled = are.sites ∙ ap Some s;
-                some = some.0;
-                most = some.1;
+          has_friends = record {
+            has_containers = record {
+              has_tolerated = record {
+                has_sites = record {
+                  has_keys = keys;
+                  spelled = are.sites ∙ ap Some s;
+                  some = some.0;
+                  most = some.1;
+                };
+                spelled = are.tolerated ∙ ap Some t;
+                fewer = fewer;
               };
-              spelled = are.tolerated ∙ ap Some t;
-              fewer = fewer;
+              values = is.values;
+              spelled = are.containers ∙ ap Some is.spelled;
+              are = is.are;
             };
-            values = is.values;
-            spelled = are.containers ∙ ap Some is.spelled;
-            are = is.are;
+            given = subst (λ value. GivesFriends is.declared value catalog.friends) (sym are.friends) is.gives;
           };
           values = lists.0;
           spelled = are.clients ∙ ap Some lists.1;
@@ -61,7 +106,7 @@ pub fault_of_room : (parts : Parts) (sites tolerated : ℕ) (catalog : Catalog) 
     (capacity areas : ℕ) (detail : Detail)
     → (1 ≤ sites) × (sites ≤ most_sites) → view parts.sites.now ≡ whole sites
     → tolerated < sites → view parts.tolerated.now ≡ whole tolerated
-    → IsCatalog sites tolerated (view parts.containers.now) catalog
+    → IsCatalog sites tolerated (view parts.containers.now) (data_in parts.friends) catalog
     → ListsClients sites (view parts.clients.now) clients
     → GivesCapacity (data_in parts.capacity) capacity → GivesAreas (data_in parts.areas) areas capacity
     → ((room : ℕ) → ¬ GivesRoom (data_in parts.room) room)
@@ -71,7 +116,7 @@ fault_of_room parts sites tolerated catalog clients capacity areas detail some s
       ms,
       sites,
       tolerated,
-      is.declared,
+      declared_by is,
       clients,
       capacity,
       areas,
@@ -84,7 +129,7 @@ pub fault_of_format : (parts : Parts) (sites tolerated : ℕ) (catalog : Catalog
     (capacity areas room : ℕ) (detail : Detail)
     → (1 ≤ sites) × (sites ≤ most_sites) → view parts.sites.now ≡ whole sites
     → tolerated < sites → view parts.tolerated.now ≡ whole tolerated
-    → IsCatalog sites tolerated (view parts.containers.now) catalog
+    → IsCatalog sites tolerated (view parts.containers.now) (data_in parts.friends) catalog
     → ListsClients sites (view parts.clients.now) clients
     → GivesCapacity (data_in parts.capacity) capacity → GivesAreas (data_in parts.areas) areas capacity
     → GivesRoom (data_in parts.room) room
@@ -95,7 +140,7 @@ fault_of_format parts sites tolerated catalog clients capacity areas room detail
       ms,
       sites,
       tolerated,
-      is.declared,
+      declared_by is,
       clients,
       capacity,
       areas,

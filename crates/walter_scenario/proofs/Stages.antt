@@ -7,17 +7,17 @@ use Rattle.walter_base.specs.Catalogs.{Item}
 use Rattle.walter_base.specs.declared.format.Format.{Format}
 use Rattle.walter_link.specs.declared.chooser.Link.{Link}
 use Rattle.walter_scenario.specs.declared.place.Place.{Place}
-use Rattle.walter_scenario.specs.declared.place.Place.TheVariants.{TooLong, Json, Key, Sites, F, Containers, Clients, Capacity, Areas, Room, Format as AtFormat, Link as AtLink, Ticks, Threads, Arms, Steps}
+use Rattle.walter_scenario.specs.declared.place.Place.TheVariants.{TooLong, Json, Key, Sites, F, Containers, Friends, Clients, Capacity, Areas, Room, Format as AtFormat, Link as AtLink, Ticks, Threads, Arms, Steps}
 use Rattle.walter_scenario.specs.declared.scenario.Arm.{Arm}
 use Rattle.walter_scenario.specs.declared.scenario.Client.{Client}
 use Rattle.walter_scenario.specs.declared.scenario.Scenario.{Scenario}
 use Rattle.walter_scenario.specs.Faults.{HaveContainers, HaveClients, HaveArms, HaveSteps}
-use Rattle.walter_scenario.specs.Parts.{whole, list, HasMember, arm_spelled, step_spelled, IsArm, IsStep, IsWrongAt}
-use Rattle.walter_scenario.specs.Scenarios.{AreKeys, GivesCapacity, GivesAreas, GivesRoom, GivesFormat, GivesLink, GivesTicks, GivesThreads, GivesArms, IsWithinLimit, IsJsonObject, HasKeys, HasSites, HasTolerated, HasContainers, HasClients, HasCapacity, HasAreas, HasRoom, HasFormat, HasLink, HasTicks, HasThreads, HasArms, IsReading, IsRefusedAt}
+use Rattle.walter_scenario.specs.Parts.{whole, list, HasMember, Declared, arm_spelled, step_spelled, IsArm, IsStep, IsWrongAt}
+use Rattle.walter_scenario.specs.Scenarios.{AreKeys, GivesFriends, GivesCapacity, GivesAreas, GivesRoom, GivesFormat, GivesLink, GivesTicks, GivesThreads, GivesArms, IsWithinLimit, IsJsonObject, HasKeys, HasSites, HasTolerated, HasContainers, HasFriends, HasClients, HasCapacity, HasAreas, HasRoom, HasFormat, HasLink, HasTicks, HasThreads, HasArms, IsReading, IsRefusedAt}
 use Rattle.walter_scenario.proofs.Declared.{containers_closed}
 use Rattle.walter_scenario.proofs.Scripts.{items_closed}
 use Rattle.walter_scenario.proofs.Sent.{clients_closed}
-use Rattle.walter_scenario.proofs.Uniqueness.{one_object, one_value, containers_object, clients_object, capacity_object, areas_object, room_object, format_object, link_object, ticks_object, threads_object, arms_object, one_of_sites, one_of_clients, one_capacity}
+use Rattle.walter_scenario.proofs.Uniqueness.{one_object, one_value, containers_object, friends_object, clients_object, capacity_object, areas_object, room_object, format_object, link_object, ticks_object, threads_object, arms_object, one_of_sites, one_of_items, one_of_clients, one_capacity}
 use Rattle.walter_scenario.proofs.Wrong.{right_nowhere, one_place}
 
 -- the bytes are right in so many stages
@@ -33,41 +33,44 @@ Passed (suc (suc (suc (suc (suc (suc zero)))))) bytes =
     (members : Members) × (sites : ℕ) × (tolerated : ℕ) × (declared : List Item)
     × HasContainers bytes members sites tolerated declared
 Passed (suc (suc (suc (suc (suc (suc (suc zero))))))) bytes =
-    (members : Members) × (sites : ℕ) × (tolerated : ℕ) × (declared : List Item) × (clients : List Client)
-    × HasClients bytes members sites tolerated declared clients
+    (members : Members) × (sites : ℕ) × (tolerated : ℕ) × (declared : Declared)
+    × HasFriends bytes members sites tolerated declared
 Passed (suc (suc (suc (suc (suc (suc (suc (suc zero)))))))) bytes =
-    (members : Members) × (sites : ℕ) × (tolerated : ℕ) × (declared : List Item) × (clients : List Client)
-    × (capacity : ℕ) × HasCapacity bytes members sites tolerated declared clients capacity
+    (members : Members) × (sites : ℕ) × (tolerated : ℕ) × (declared : Declared) × (clients : List Client)
+    × HasClients bytes members sites tolerated declared clients
 Passed (suc (suc (suc (suc (suc (suc (suc (suc (suc zero))))))))) bytes =
-    (members : Members) × (sites : ℕ) × (tolerated : ℕ) × (declared : List Item) × (clients : List Client)
-    × (capacity : ℕ) × (areas : ℕ) × HasAreas bytes members sites tolerated declared clients capacity areas
+    (members : Members) × (sites : ℕ) × (tolerated : ℕ) × (declared : Declared) × (clients : List Client)
+    × (capacity : ℕ) × HasCapacity bytes members sites tolerated declared clients capacity
 Passed (suc (suc (suc (suc (suc (suc (suc (suc (suc (suc zero)))))))))) bytes =
-    (members : Members) × (sites : ℕ) × (tolerated : ℕ) × (declared : List Item) × (clients : List Client)
+    (members : Members) × (sites : ℕ) × (tolerated : ℕ) × (declared : Declared) × (clients : List Client)
+    × (capacity : ℕ) × (areas : ℕ) × HasAreas bytes members sites tolerated declared clients capacity areas
+Passed (suc (suc (suc (suc (suc (suc (suc (suc (suc (suc (suc zero))))))))))) bytes =
+    (members : Members) × (sites : ℕ) × (tolerated : ℕ) × (declared : Declared) × (clients : List Client)
     × (capacity : ℕ) × (areas : ℕ) × (room : ℕ)
     × HasRoom bytes members sites tolerated declared clients capacity areas room
-Passed (suc (suc (suc (suc (suc (suc (suc (suc (suc (suc (suc zero))))))))))) bytes =
-    (members : Members) × (sites : ℕ) × (tolerated : ℕ) × (declared : List Item) × (clients : List Client)
+Passed (suc (suc (suc (suc (suc (suc (suc (suc (suc (suc (suc (suc zero)))))))))))) bytes =
+    (members : Members) × (sites : ℕ) × (tolerated : ℕ) × (declared : Declared) × (clients : List Client)
     × (capacity : ℕ) × (areas : ℕ) × (room : ℕ) × (format : Format)
     × HasFormat bytes members sites tolerated declared clients capacity areas room format
-Passed (suc (suc (suc (suc (suc (suc (suc (suc (suc (suc (suc (suc zero)))))))))))) bytes =
-    (members : Members) × (sites : ℕ) × (tolerated : ℕ) × (declared : List Item) × (clients : List Client)
+Passed (suc (suc (suc (suc (suc (suc (suc (suc (suc (suc (suc (suc (suc zero))))))))))))) bytes =
+    (members : Members) × (sites : ℕ) × (tolerated : ℕ) × (declared : Declared) × (clients : List Client)
     × (capacity : ℕ) × (areas : ℕ) × (room : ℕ) × (format : Format) × (link : Link)
     × HasLink bytes members sites tolerated declared clients capacity areas room format link
-Passed (suc (suc (suc (suc (suc (suc (suc (suc (suc (suc (suc (suc (suc zero))))))))))))) bytes =
-    (members : Members) × (sites : ℕ) × (tolerated : ℕ) × (declared : List Item) × (clients : List Client)
+Passed (suc (suc (suc (suc (suc (suc (suc (suc (suc (suc (suc (suc (suc (suc zero)))))))))))))) bytes =
+    (members : Members) × (sites : ℕ) × (tolerated : ℕ) × (declared : Declared) × (clients : List Client)
     × (capacity : ℕ) × (areas : ℕ) × (room : ℕ) × (format : Format) × (link : Link) × (ticks : ℕ)
     × HasTicks bytes members sites tolerated declared clients capacity areas room format link ticks
-Passed (suc (suc (suc (suc (suc (suc (suc (suc (suc (suc (suc (suc (suc (suc zero)))))))))))))) bytes =
-    (members : Members) × (sites : ℕ) × (tolerated : ℕ) × (declared : List Item) × (clients : List Client)
+Passed (suc (suc (suc (suc (suc (suc (suc (suc (suc (suc (suc (suc (suc (suc (suc zero))))))))))))))) bytes =
+    (members : Members) × (sites : ℕ) × (tolerated : ℕ) × (declared : Declared) × (clients : List Client)
     × (capacity : ℕ) × (areas : ℕ) × (room : ℕ) × (format : Format) × (link : Link) × (ticks : ℕ) × (threads : ℕ)
     × HasThreads bytes members sites tolerated declared clients capacity areas room format link ticks threads
-Passed (suc (suc (suc (suc (suc (suc (suc (suc (suc (suc (suc (suc (suc (suc (suc zero))))))))))))))) bytes =
-    (members : Members) × (sites : ℕ) × (tolerated : ℕ) × (declared : List Item) × (clients : List Client)
+Passed (suc (suc (suc (suc (suc (suc (suc (suc (suc (suc (suc (suc (suc (suc (suc (suc zero)))))))))))))))) bytes =
+    (members : Members) × (sites : ℕ) × (tolerated : ℕ) × (declared : Declared) × (clients : List Client)
     × (capacity : ℕ) × (areas : ℕ) × (room : ℕ) × (format : Format) × (link : Link) × (ticks : ℕ) × (threads : ℕ)
     × (arms : List Arm)
     × HasArms bytes members sites tolerated declared clients capacity areas room format link ticks threads arms
-Passed (suc (suc (suc (suc (suc (suc (suc (suc (suc (suc (suc (suc (suc (suc (suc (suc n)))))))))))))))) bytes =
-    (members : Members) × (sites : ℕ) × (tolerated : ℕ) × (declared : List Item) × (clients : List Client)
+Passed (suc (suc (suc (suc (suc (suc (suc (suc (suc (suc (suc (suc (suc (suc (suc (suc (suc n))))))))))))))))) bytes =
+    (members : Members) × (sites : ℕ) × (tolerated : ℕ) × (declared : Declared) × (clients : List Client)
     × (capacity : ℕ) × (areas : ℕ) × (room : ℕ) × (format : Format) × (link : Link) × (ticks : ℕ) × (threads : ℕ)
     × (arms : List Arm) × (values : List Data)
     × HasArms bytes members sites tolerated declared clients capacity areas room format link ticks threads arms
@@ -81,16 +84,17 @@ stage Key = 2
 stage Sites = 3
 stage F = 4
 stage (Containers place) = 5
-stage (Clients place) = 6
-stage Capacity = 7
-stage Areas = 8
-stage Room = 9
-stage AtFormat = 10
-stage AtLink = 11
-stage Ticks = 12
-stage Threads = 13
-stage (Arms place) = 14
-stage (Steps place) = 15
+stage Friends = 6
+stage (Clients place) = 7
+stage Capacity = 8
+stage Areas = 9
+stage Room = 10
+stage AtFormat = 11
+stage AtLink = 12
+stage Ticks = 13
+stage Threads = 14
+stage (Arms place) = 15
+stage (Steps place) = 16
 
 one_less : (bytes : List ℕ) (n : ℕ) → Passed (suc n) bytes → Passed n bytes
 one_less bytes zero p = tt
@@ -99,26 +103,29 @@ one_less bytes (suc (suc zero)) p = (p.1.short, (p.0, p.1.is_object))
 one_less bytes (suc (suc (suc zero))) p = (p.0, p.2.has_keys)
 one_less bytes (suc (suc (suc (suc zero)))) p = (p.0, p.1, p.3.has_sites)
 one_less bytes (suc (suc (suc (suc (suc zero))))) p = (p.0, p.1, p.2, p.4.has_tolerated)
-one_less bytes (suc (suc (suc (suc (suc (suc zero)))))) p = (p.0, p.1, p.2, p.3, p.5.has_containers)
+one_less bytes (suc (suc (suc (suc (suc (suc zero)))))) p =
+    (p.0, p.1, p.2, p.3.items, p.4.has_containers)
 one_less bytes (suc (suc (suc (suc (suc (suc (suc zero))))))) p =
-    (p.0, p.1, p.2, p.3, p.4, p.6.has_clients)
+    (p.0, p.1, p.2, p.3, p.5.has_friends)
 one_less bytes (suc (suc (suc (suc (suc (suc (suc (suc zero)))))))) p =
-    (p.0, p.1, p.2, p.3, p.4, p.5, p.7.has_capacity)
+    (p.0, p.1, p.2, p.3, p.4, p.6.has_clients)
 one_less bytes (suc (suc (suc (suc (suc (suc (suc (suc (suc zero))))))))) p =
-    (p.0, p.1, p.2, p.3, p.4, p.5, p.6, p.8.has_areas)
+    (p.0, p.1, p.2, p.3, p.4, p.5, p.7.has_capacity)
 one_less bytes (suc (suc (suc (suc (suc (suc (suc (suc (suc (suc zero)))))))))) p =
-    (p.0, p.1, p.2, p.3, p.4, p.5, p.6, p.7, p.9.has_room)
+    (p.0, p.1, p.2, p.3, p.4, p.5, p.6, p.8.has_areas)
 one_less bytes (suc (suc (suc (suc (suc (suc (suc (suc (suc (suc (suc zero))))))))))) p =
-    (p.0, p.1, p.2, p.3, p.4, p.5, p.6, p.7, p.8, p.10.has_format)
+    (p.0, p.1, p.2, p.3, p.4, p.5, p.6, p.7, p.9.has_room)
 one_less bytes (suc (suc (suc (suc (suc (suc (suc (suc (suc (suc (suc (suc zero)))))))))))) p =
-    (p.0, p.1, p.2, p.3, p.4, p.5, p.6, p.7, p.8, p.9, p.11.has_link)
+    (p.0, p.1, p.2, p.3, p.4, p.5, p.6, p.7, p.8, p.10.has_format)
 one_less bytes (suc (suc (suc (suc (suc (suc (suc (suc (suc (suc (suc (suc (suc zero))))))))))))) p =
-    (p.0, p.1, p.2, p.3, p.4, p.5, p.6, p.7, p.8, p.9, p.10, p.12.has_ticks)
+    (p.0, p.1, p.2, p.3, p.4, p.5, p.6, p.7, p.8, p.9, p.11.has_link)
 one_less bytes (suc (suc (suc (suc (suc (suc (suc (suc (suc (suc (suc (suc (suc (suc zero)))))))))))))) p =
-    (p.0, p.1, p.2, p.3, p.4, p.5, p.6, p.7, p.8, p.9, p.10, p.11, p.13.has_threads)
+    (p.0, p.1, p.2, p.3, p.4, p.5, p.6, p.7, p.8, p.9, p.10, p.12.has_ticks)
 one_less bytes (suc (suc (suc (suc (suc (suc (suc (suc (suc (suc (suc (suc (suc (suc (suc zero))))))))))))))) p =
+    (p.0, p.1, p.2, p.3, p.4, p.5, p.6, p.7, p.8, p.9, p.10, p.11, p.13.has_threads)
+one_less bytes (suc (suc (suc (suc (suc (suc (suc (suc (suc (suc (suc (suc (suc (suc (suc (suc zero)))))))))))))))) p =
     (p.0, p.1, p.2, p.3, p.4, p.5, p.6, p.7, p.8, p.9, p.10, p.11, p.12, p.14)
-one_less bytes (suc (suc (suc (suc (suc (suc (suc (suc (suc (suc (suc (suc (suc (suc (suc (suc n)))))))))))))))) p = p
+one_less bytes (suc (suc (suc (suc (suc (suc (suc (suc (suc (suc (suc (suc (suc (suc (suc (suc (suc n))))))))))))))))) p = p
 
 fewer : (bytes : List ℕ) (m n : ℕ) → m ≤ n → Passed n bytes → Passed m bytes
 fewer bytes m zero h p = let same : 0 ≡ m = omega arith in subst (λ k. Passed k bytes) same p
@@ -136,6 +143,7 @@ reached bytes Key is = (is.0, (is.1.0, is.1.1))
 reached bytes Sites is = (is.0, is.1)
 reached bytes F is = (is.0, is.1, is.2)
 reached bytes (Containers place) is = (is.0, is.1, is.2, is.4)
+reached bytes Friends is = (is.0, is.1, is.2, is.3, is.4)
 reached bytes (Clients place) is = (is.0, is.1, is.2, is.3, is.5)
 reached bytes Capacity is = (is.0, is.1, is.2, is.3, is.4, is.5)
 reached bytes Areas is = (is.0, is.1, is.2, is.3, is.4, is.5, is.6)
@@ -154,9 +162,9 @@ steps_closed : (sites clients n : ℕ) (values : List Data) → HaveSteps sites 
     → HaveSteps sites clients (take n values)
 steps_closed sites clients n values have = items_closed step_spelled (IsStep sites clients) n values have
 
-sites_of_clients : (bytes : List ℕ) (ms : Members) (sites tolerated : ℕ) (declared : List Item) (clients : List Client)
+sites_of_clients : (bytes : List ℕ) (ms : Members) (sites tolerated : ℕ) (declared : Declared) (clients : List Client)
     → HasClients bytes ms sites tolerated declared clients → HasSites bytes ms sites
-sites_of_clients bytes ms sites tolerated declared clients has = has.has_containers.has_tolerated.has_sites
+sites_of_clients bytes ms sites tolerated declared clients has = has.has_friends.has_containers.has_tolerated.has_sites
 
 -- and it isn't
 stopped : (bytes : List ℕ) (place : Place) → IsRefusedAt bytes place → ¬ Passed (suc (stage place)) bytes
@@ -180,12 +188,19 @@ stopped bytes (Containers place) is p =
     let value = one_value (codes "containers") is.0 p.0 is.3 (list p.4.values) same is.5 p.4.spelled in
     right_nowhere (HaveContainers is.1) (containers_closed is.1) is.3 p.4.values place value
     (subst (λ n. HaveContainers n p.4.values) sites (p.3, p.4.are)) is.6
+stopped bytes Friends is p =
+    let same =
+    one_object bytes p.0 is.0 (friends_object bytes p.0 p.1 p.2 p.3 p.4) (containers_object bytes is.0 is.1 is.2 is.3 is.4) in
+    let items = one_of_items bytes p.0 is.0 p.1 is.1 p.2 is.2 p.3.items is.3 p.4.has_containers is.4 in
+    let given = subst (λ xs. GivesFriends xs (get_member (codes "friends") p.0) p.3.friends) items p.4.given in
+    is.5 p.3.friends (subst (λ ms. GivesFriends is.3 (get_member (codes "friends") ms) p.3.friends) same given)
 stopped bytes (Clients place) is p =
     let same =
-    one_object bytes is.0 p.0 (containers_object bytes is.0 is.1 is.2 is.3 is.5)
-    (containers_object bytes p.0 p.1 p.2 p.3 p.5.has_containers) in
-    let sites =
-    one_of_sites bytes p.0 is.0 p.1 is.1 p.5.has_containers.has_tolerated.has_sites is.5.has_tolerated.has_sites in
+    one_object bytes is.0 p.0 (friends_object bytes is.0 is.1 is.2 is.3 is.5)
+    (friends_object bytes p.0 p.1 p.2 p.3 p.5.has_friends) in
+    let in_p = p.5.has_friends.has_containers.has_tolerated in
+    let in_is = is.5.has_containers.has_tolerated in
+    let sites = one_of_sites bytes p.0 is.0 p.1 is.1 in_p.has_sites in_is.has_sites in
     let value = one_value (codes "clients") is.0 p.0 is.4 (list p.5.values) same is.6 p.5.spelled in
     right_nowhere (HaveClients is.1) (clients_closed is.1) is.4 p.5.values place value
     (subst (λ n. HaveClients n p.5.values) sites (p.4, p.5.are)) is.7
@@ -259,13 +274,14 @@ stopped bytes (Steps place) is p =
     (subst (λ n. HaveSteps n (length is.4) p.13) sites (subst (λ cs. HaveSteps p.1 (length cs) p.13) clients p.16))
     is.16
 
-few : (place : Place) → stage place < 16
+few : (place : Place) → stage place < 17
 few TooLong = omega arith
 few Json = omega arith
 few Key = omega arith
 few Sites = omega arith
 few F = omega arith
 few (Containers place) = omega arith
+few Friends = omega arith
 few (Clients place) = omega arith
 few Capacity = omega arith
 few Areas = omega arith
@@ -281,7 +297,7 @@ few (Steps place) = omega arith
 pub read_nowhere_refused : (bytes : List ℕ) (s : Scenario) (place : Place) → IsReading bytes s
     → ¬ IsRefusedAt bytes place
 read_nowhere_refused bytes s place is refused =
-    let all : Passed 16 bytes = (
+    let all : Passed 17 bytes = (
       is.members,
       s.catalog.sites,
       s.catalog.tolerated,
@@ -300,7 +316,7 @@ read_nowhere_refused bytes s place is refused =
       is.spelled,
       (s.steps, is.are),
     ) in
-    stopped bytes place refused (fewer bytes (suc (stage place)) 16 (omega (arith, few place)) all)
+    stopped bytes place refused (fewer bytes (suc (stage place)) 17 (omega (arith, few place)) all)
 
 not_before : (bytes : List ℕ) (place other : Place) → IsRefusedAt bytes place → IsRefusedAt bytes other
     → ¬ (stage place < stage other)
@@ -321,11 +337,14 @@ same_place bytes (Containers m) (Containers n) e a b =
     let wrong = subst (λ v. IsWrongAt (HaveContainers a.1) v m) value a.6 in
     ap Containers (one_place (HaveContainers b.1) (containers_closed b.1) b.3 m n
     (subst (λ k. IsWrongAt (HaveContainers k) b.3 m) sites wrong) b.6)
+same_place bytes Friends Friends e a b = refl
 same_place bytes (Clients m) (Clients n) e a b =
     let same =
-    one_object bytes a.0 b.0 (containers_object bytes a.0 a.1 a.2 a.3 a.5)
-    (containers_object bytes b.0 b.1 b.2 b.3 b.5) in
-    let sites = one_of_sites bytes a.0 b.0 a.1 b.1 a.5.has_tolerated.has_sites b.5.has_tolerated.has_sites in
+    one_object bytes a.0 b.0 (friends_object bytes a.0 a.1 a.2 a.3 a.5)
+    (friends_object bytes b.0 b.1 b.2 b.3 b.5) in
+    let in_a = a.5.has_containers.has_tolerated in
+    let in_b = b.5.has_containers.has_tolerated in
+    let sites = one_of_sites bytes a.0 b.0 a.1 b.1 in_a.has_sites in_b.has_sites in
     let value = one_value (codes "clients") a.0 b.0 a.4 b.4 same a.6 b.6 in
     let wrong = subst (λ v. IsWrongAt (HaveClients a.1) v m) value a.7 in
     ap Clients (one_place (HaveClients b.1) (clients_closed b.1) b.4 m n

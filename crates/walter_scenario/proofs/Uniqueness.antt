@@ -10,8 +10,8 @@ use Rattle.walter_link.specs.declared.chooser.Link.{Link}
 use Rattle.walter_scenario.specs.declared.scenario.Arm.{Arm}
 use Rattle.walter_scenario.specs.declared.scenario.Client.{Client}
 use Rattle.walter_scenario.specs.declared.scenario.Scenario.{Scenario}
-use Rattle.walter_scenario.specs.Parts.{whole, list, HasMember, SpellClients, SpellLink, AreArms, AreSteps}
-use Rattle.walter_scenario.specs.Scenarios.{IsJsonObject, GivesCapacity, GivesAreas, GivesRoom, TellsFormat, GivesFormat, GivesLink, GivesTicks, GivesThreads, GivesArms, HasSites, HasTolerated, HasContainers, HasClients, HasCapacity, HasAreas, HasRoom, HasFormat, HasLink, HasTicks, HasThreads, HasArms, IsReading}
+use Rattle.walter_scenario.specs.Parts.{whole, list, HasMember, Declared, SpellClients, SpellLink, AreArms, AreSteps}
+use Rattle.walter_scenario.specs.Scenarios.{IsJsonObject, GivesFriends, GivesCapacity, GivesAreas, GivesRoom, TellsFormat, GivesFormat, GivesLink, GivesTicks, GivesThreads, GivesArms, HasSites, HasTolerated, HasContainers, HasFriends, HasClients, HasCapacity, HasAreas, HasRoom, HasFormat, HasLink, HasTicks, HasThreads, HasArms, IsReading}
 use Rattle.walter_scenario.proofs.Declared.{same_declared}
 use Rattle.walter_scenario.proofs.Scripts.{same_arms, same_steps}
 use Rattle.walter_scenario.proofs.Sent.{same_clients}
@@ -48,64 +48,90 @@ pub containers_object : (bytes : List ℕ) (m : Members) (s f : ℕ) (ds : List 
     → IsJsonObject bytes m
 containers_object bytes m s f ds has = has.has_tolerated.has_sites.has_keys.is_object
 
-pub one_declared : (bytes : List ℕ) (m n : Members) (s t f g : ℕ) (ds es : List Item) → HasContainers bytes m s f ds
+pub one_of_items : (bytes : List ℕ) (m n : Members) (s t f g : ℕ) (ds es : List Item) → HasContainers bytes m s f ds
     → HasContainers bytes n t g es → ds ≡ es
-one_declared bytes m n s t f g ds es a b =
+one_of_items bytes m n s t f g ds es a b =
     let same = one_object bytes m n (containers_object bytes m s f ds a) (containers_object bytes n t g es b) in
     let values = one_list (codes "containers") m n a.values b.values same a.spelled b.spelled in
     same_declared ds es a.are.numbers b.are.numbers (sym a.are.spelled ∙ values ∙ b.are.spelled)
 
-pub one_of_clients : (bytes : List ℕ) (m n : Members) (s t f g : ℕ) (ds es : List Item) (cs others : List Client)
+pub friends_object : (bytes : List ℕ) (m : Members) (s f : ℕ) (ds : Declared) → HasFriends bytes m s f ds
+    → IsJsonObject bytes m
+friends_object bytes m s f ds has = containers_object bytes m s f ds.items has.has_containers
+
+-- the lists are of one container, or of none
+one_of_friends : (items : List Item) (given : Option Data) (a b : Option ℕ) → GivesFriends items given a
+    → GivesFriends items given b → a ≡ b
+one_of_friends items None a b s t = s ∙ sym t
+one_of_friends items (Some value) None b s t = absurd s
+one_of_friends items (Some value) (Some m) None s t = absurd t
+one_of_friends items (Some value) (Some m) (Some n) s t =
+    let e : whole m ≡ whole n = sym s.0 ∙ t.0 in
+    let same : m ≡ n = cc in
+    ap (λ k. Some k) same
+
+pub one_declared : (bytes : List ℕ) (m n : Members) (s t f g : ℕ) (ds es : Declared) → HasFriends bytes m s f ds
+    → HasFriends bytes n t g es → ds ≡ es
+one_declared bytes m n s t f g ds es a b =
+    let same = one_object bytes m n (friends_object bytes m s f ds a) (friends_object bytes n t g es b) in
+    let items = one_of_items bytes m n s t f g ds.items es.items a.has_containers b.has_containers in
+    let given = subst (λ xs. GivesFriends xs (get_member (codes "friends") m) ds.friends) items a.given in
+    let friends =
+    one_of_friends es.items (get_member (codes "friends") n) ds.friends es.friends
+    (subst (λ ms. GivesFriends es.items (get_member (codes "friends") ms) ds.friends) same given) b.given in
+    λ i. record { items = items i; friends = friends i }
+
+pub one_of_clients : (bytes : List ℕ) (m n : Members) (s t f g : ℕ) (ds es : Declared) (cs others : List Client)
     → HasClients bytes m s f ds cs
     → HasClients bytes n t g es others → cs ≡ others
 one_of_clients bytes m n s t f g ds es cs others a b =
     let same =
-    one_object bytes m n (containers_object bytes m s f ds a.has_containers)
-    (containers_object bytes n t g es b.has_containers) in
+    one_object bytes m n (friends_object bytes m s f ds a.has_friends)
+    (friends_object bytes n t g es b.has_friends) in
     let values = one_list (codes "clients") m n a.values b.values same a.spelled b.spelled in
     same_clients b.values cs others (subst (λ vs. SpellClients vs cs) values a.are.spelled) b.are.spelled
 
-pub clients_object : (bytes : List ℕ) (m : Members) (s f : ℕ) (ds : List Item) (cs : List Client)
+pub clients_object : (bytes : List ℕ) (m : Members) (s f : ℕ) (ds : Declared) (cs : List Client)
     → HasClients bytes m s f ds cs → IsJsonObject bytes m
-clients_object bytes m s f ds cs has = containers_object bytes m s f ds has.has_containers
+clients_object bytes m s f ds cs has = friends_object bytes m s f ds has.has_friends
 
-pub capacity_object : (bytes : List ℕ) (m : Members) (s f : ℕ) (ds : List Item) (cs : List Client) (capacity : ℕ)
+pub capacity_object : (bytes : List ℕ) (m : Members) (s f : ℕ) (ds : Declared) (cs : List Client) (capacity : ℕ)
     → HasCapacity bytes m s f ds cs capacity → IsJsonObject bytes m
 capacity_object bytes m s f ds cs capacity has = clients_object bytes m s f ds cs has.has_clients
 
-pub areas_object : (bytes : List ℕ) (m : Members) (s f : ℕ) (ds : List Item) (cs : List Client) (capacity areas : ℕ)
+pub areas_object : (bytes : List ℕ) (m : Members) (s f : ℕ) (ds : Declared) (cs : List Client) (capacity areas : ℕ)
     → HasAreas bytes m s f ds cs capacity areas → IsJsonObject bytes m
 areas_object bytes m s f ds cs capacity areas has = capacity_object bytes m s f ds cs capacity has.has_capacity
 
-pub room_object : (bytes : List ℕ) (m : Members) (s f : ℕ) (ds : List Item) (cs : List Client)
+pub room_object : (bytes : List ℕ) (m : Members) (s f : ℕ) (ds : Declared) (cs : List Client)
     (capacity areas room : ℕ) → HasRoom bytes m s f ds cs capacity areas room → IsJsonObject bytes m
 room_object bytes m s f ds cs capacity areas room has = areas_object bytes m s f ds cs capacity areas has.has_areas
 
-pub format_object : (bytes : List ℕ) (m : Members) (s f : ℕ) (ds : List Item) (cs : List Client)
+pub format_object : (bytes : List ℕ) (m : Members) (s f : ℕ) (ds : Declared) (cs : List Client)
     (capacity areas room : ℕ) (format : Format) → HasFormat bytes m s f ds cs capacity areas room format
     → IsJsonObject bytes m
 format_object bytes m s f ds cs capacity areas room format has =
     room_object bytes m s f ds cs capacity areas room has.has_room
 
-pub link_object : (bytes : List ℕ) (m : Members) (s f : ℕ) (ds : List Item) (cs : List Client)
+pub link_object : (bytes : List ℕ) (m : Members) (s f : ℕ) (ds : Declared) (cs : List Client)
     (capacity areas room : ℕ) (format : Format) (link : Link) → HasLink bytes m s f ds cs capacity areas room format link
     → IsJsonObject bytes m
 link_object bytes m s f ds cs capacity areas room format link has =
     format_object bytes m s f ds cs capacity areas room format has.has_format
 
-pub ticks_object : (bytes : List ℕ) (m : Members) (s f : ℕ) (ds : List Item) (cs : List Client)
+pub ticks_object : (bytes : List ℕ) (m : Members) (s f : ℕ) (ds : Declared) (cs : List Client)
     (capacity areas room : ℕ) (format : Format) (link : Link) (ticks : ℕ) → HasTicks bytes m s f ds cs capacity areas room format link ticks
     → IsJsonObject bytes m
 ticks_object bytes m s f ds cs capacity areas room format link ticks has =
     link_object bytes m s f ds cs capacity areas room format link has.has_link
 
-pub threads_object : (bytes : List ℕ) (m : Members) (s f : ℕ) (ds : List Item) (cs : List Client)
+pub threads_object : (bytes : List ℕ) (m : Members) (s f : ℕ) (ds : Declared) (cs : List Client)
     (capacity areas room : ℕ) (format : Format) (link : Link) (ticks threads : ℕ)
     → HasThreads bytes m s f ds cs capacity areas room format link ticks threads → IsJsonObject bytes m
 threads_object bytes m s f ds cs capacity areas room format link ticks threads has =
     ticks_object bytes m s f ds cs capacity areas room format link ticks has.has_ticks
 
-pub arms_object : (bytes : List ℕ) (m : Members) (s f : ℕ) (ds : List Item) (cs : List Client)
+pub arms_object : (bytes : List ℕ) (m : Members) (s f : ℕ) (ds : Declared) (cs : List Client)
     (capacity areas room : ℕ) (format : Format) (link : Link) (ticks threads : ℕ) (arms : List Arm)
     → HasArms bytes m s f ds cs capacity areas room format link ticks threads arms → IsJsonObject bytes m
 arms_object bytes m s f ds cs capacity areas room format link ticks threads arms has =
@@ -193,8 +219,8 @@ one_scenario bytes s t a b =
     let areas_t = room_t.has_areas in
     let in_s = areas_s.has_capacity in
     let in_t = areas_t.has_capacity in
-    let of_s = in_s.has_clients.has_containers.has_tolerated in
-    let of_t = in_t.has_clients.has_containers.has_tolerated in
+    let of_s = in_s.has_clients.has_friends.has_containers.has_tolerated in
+    let of_t = in_t.has_clients.has_friends.has_containers.has_tolerated in
     let m = s.catalog.sites in
     let n = t.catalog.sites in
     let f = s.catalog.tolerated in
@@ -204,9 +230,10 @@ one_scenario bytes s t a b =
     let sites : m ≡ n = one_of_sites bytes a.members b.members m n of_s.has_sites of_t.has_sites in
     let tolerated : f ≡ g = one_tolerated bytes a.members b.members m n f g of_s of_t in
     let declared =
-    one_declared bytes a.members b.members m n f g a.declared b.declared in_s.has_clients.has_containers
-    in_t.has_clients.has_containers in
-    let containers = a.containers ∙ ap (λ ds. containers_of ds) declared ∙ sym b.containers in
+    one_declared bytes a.members b.members m n f g a.declared b.declared in_s.has_clients.has_friends
+    in_t.has_clients.has_friends in
+    let containers = a.containers ∙ ap (λ (ds : Declared). containers_of ds.items) declared ∙ sym b.containers in
+    let friends = a.friends ∙ ap (λ (ds : Declared). ds.friends) declared ∙ sym b.friends in
     let clients =
     one_of_clients bytes a.members b.members m n f g a.declared b.declared s.clients t.clients in_s.has_clients
     in_t.has_clients in
@@ -244,7 +271,7 @@ one_scenario bytes s t a b =
     same_steps n (length t.clients) b.values s.steps t.steps
     (subst (λ k. AreSteps k (length t.clients) b.values s.steps) sites there) b.are in
     λ i. record {
-      catalog = record { sites = sites i; tolerated = tolerated i; containers = containers i };
+      catalog = record { sites = sites i; tolerated = tolerated i; containers = containers i; friends = friends i };
       clients = clients i;
       capacity = capacity i;
       areas = areas i;

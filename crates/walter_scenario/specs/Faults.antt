@@ -3,13 +3,14 @@ use Rattle.std.specs.Prelude.{◌≡◌, ℕ, List, Option, Some}
 use Rattle.serde_json.specs.Data.{Data}
 use Rattle.walter_base.specs.Catalogs.{Item}
 use Rattle.walter_scenario.specs.declared.place.Place.{Place}
-use Rattle.walter_scenario.specs.declared.place.Place.TheVariants.{Containers, Clients, Arms, Steps}
+use Rattle.walter_scenario.specs.declared.place.Place.TheVariants.{Containers, Friends, Clients, Arms, Steps}
 use Rattle.walter_scenario.specs.declared.place.ReadFault.{ReadFault}
 use Rattle.walter_scenario.specs.declared.place.ReadFault.TheVariants.{Refused, NoMemory}
 use Rattle.walter_scenario.specs.declared.scenario.Arm.{Arm}
 use Rattle.walter_scenario.specs.declared.scenario.Client.{Client}
 use Rattle.walter_scenario.specs.declared.scenario.Step.{Step}
-use Rattle.walter_scenario.specs.Parts.{AreContainers, AreClients, AreArms, AreSteps, IsWrongAt}
+use Rattle.walter_scenario.specs.Parts.{list, AreContainers, AreClients, AreArms, AreSteps, IsWrongAt}
+use Rattle.walter_scenario.specs.Scenarios.{GivesFriends}
 
 -- the place that is named is so, whatever the detail
 abbrev pub IfRefusedAt : (Place → Type 0) → ReadFault → Type 0
@@ -34,8 +35,21 @@ HaveArms sites values = (arms : List Arm) × AreArms sites values arms
 abbrev pub HaveSteps : ℕ → ℕ → List Data → Type 0
 HaveSteps sites clients values = (steps : List Step) × AreSteps sites clients values steps
 
-abbrev pub IsContainersFault : ℕ → Data → ReadFault → Type 0
-IsContainersFault sites value = IfRefusedAt (IsItem Containers (HaveContainers sites) value)
+-- the containers are right, and the given value names none of them for the friend lists
+pub record NamesNoFriends (sites : ℕ) (value : Data) (given : Option Data) : Type 0 where
+  pub values : List Data
+  pub declared : List Item
+  pub spelled : value ≡ list values
+  pub are : AreContainers sites values declared
+  pub none : (friends : Option ℕ) → ¬ GivesFriends declared given friends
+
+-- what is wrong with the containers, or else with the one that the given value names
+pub data IsCatalogPlace (sites : ℕ) (value : Data) (given : Option Data) (place : Place) : Type 0 where
+  at_container : IsItem Containers (HaveContainers sites) value place → IsCatalogPlace sites value given place
+  at_friends : place ≡ Friends → NamesNoFriends sites value given → IsCatalogPlace sites value given place
+
+abbrev pub IsCatalogFault : ℕ → Data → Option Data → ReadFault → Type 0
+IsCatalogFault sites value given = IfRefusedAt (IsCatalogPlace sites value given)
 
 abbrev pub IsClientsFault : ℕ → Data → ReadFault → Type 0
 IsClientsFault sites value = IfRefusedAt (IsItem Clients (HaveClients sites) value)

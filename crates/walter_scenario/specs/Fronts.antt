@@ -1,5 +1,5 @@
 -- What was read of a list so far.
-use Rattle.std.specs.Prelude.{◌≡◌, ◌≢◌, ◌≤◌, ◌<◌, ◌^◌, ℕ, List, map, take, length, count_by, nat_eq, All}
+use Rattle.std.specs.Prelude.{◌≡◌, ◌≢◌, ◌≤◌, ◌<◌, ◌^◌, ℕ, List, Option, map, take, length, count_by, nat_eq, All}
 use Rattle.std.specs.List.{HoldsAt}
 use Rattle.serde_json.specs.Data.{Data}
 use Rattle.walter_base.specs.declared.catalog.Catalog.{Catalog}
@@ -8,6 +8,7 @@ use Rattle.walter_scenario.specs.declared.scenario.Arm.{Arm}
 use Rattle.walter_scenario.specs.declared.scenario.Client.{Client}
 use Rattle.walter_scenario.specs.declared.scenario.Step.{Step}
 use Rattle.walter_scenario.specs.Parts.{list, container_spelled, AreContainers, AreClients, AreArms, AreSteps}
+use Rattle.walter_scenario.specs.Scenarios.{GivesFriends}
 
 -- a container whose number fits
 abbrev pub IsContainer : Item → Type 0
@@ -24,8 +25,8 @@ pub record IsFront (values : List Data) (front : List Item) : Type 0 where
   pub declared : All IsContainer front
   pub ends : length front < length values → HoldsAt SpellsNoContainer values (length front)
 
--- the catalog of the containers that the value spells
-pub record IsCatalog (sites tolerated : ℕ) (value : Data) (catalog : Catalog) : Type 0 where
+-- the catalog of the containers that the value spells, of which the given value names that of the friend lists
+pub record IsCatalog (sites tolerated : ℕ) (value : Data) (given : Option Data) (catalog : Catalog) : Type 0 where
   pub values : List Data
   pub declared : List Item
   pub spelled : value ≡ list values
@@ -33,6 +34,7 @@ pub record IsCatalog (sites tolerated : ℕ) (value : Data) (catalog : Catalog) 
   pub of_sites : catalog.sites ≡ sites
   pub of_tolerated : catalog.tolerated ≡ tolerated
   pub containers : catalog.containers ≡ containers_of declared
+  pub gives : GivesFriends declared given catalog.friends
 
 -- the client may stand behind these: its site is there, and has room
 pub record MayFollow (sites : ℕ) (clients : List Client) (client : Client) : Type 0 where

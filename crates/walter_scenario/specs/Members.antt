@@ -5,13 +5,13 @@ use Rattle.serde_json.specs.Data.{Data, Members}
 use Rattle.serde_json.specs.Find.{get_member}
 use Rattle.serde_json.specs.View.{view}
 use Rattle.serde_json.specs.declared.value.Value.{Value}
-use Rattle.walter_base.specs.Catalogs.{Item, containers_of}
+use Rattle.walter_base.specs.Catalogs.{containers_of}
 use Rattle.walter_scenario.specs.declared.grounds.Grounds.{Grounds}
 use Rattle.walter_scenario.specs.declared.members.Parts.{Parts}
 use Rattle.walter_scenario.specs.declared.place.ReadFault.{ReadFault}
 use Rattle.walter_scenario.specs.declared.scenario.Scenario.{Scenario}
 use Rattle.walter_scenario.specs.declared.settings.Settings.{Settings}
-use Rattle.walter_scenario.specs.Parts.{HasMember}
+use Rattle.walter_scenario.specs.Parts.{HasMember, Declared}
 use Rattle.walter_scenario.specs.Scenarios.{GivesLink, GivesTicks, GivesThreads, HasKeys, HasFormat, IsReading, IsReadFault}
 
 -- the data of a value that may be absent
@@ -23,6 +23,7 @@ pub record AreParts (members : Members) (parts : Parts) : Type 0 where
   pub sites : HasMember members (codes "sites") (view parts.sites.now)
   pub tolerated : HasMember members (codes "f") (view parts.tolerated.now)
   pub containers : HasMember members (codes "containers") (view parts.containers.now)
+  pub friends : get_member (codes "friends") members ≡ data_in parts.friends
   pub clients : HasMember members (codes "clients") (view parts.clients.now)
   pub capacity : get_member (codes "capacity") members ≡ data_in parts.capacity
   pub areas : get_member (codes "areas") members ≡ data_in parts.areas
@@ -46,10 +47,11 @@ IsFaultOf parts fault =
 
 -- the bytes are right up to their format, and these are what they spell so far
 pub record HasGrounds (bytes : List ℕ) (members : Members) (g : Grounds) : Type 0 where
-  pub declared : List Item
+  pub declared : Declared
   pub has_format : HasFormat bytes members g.catalog.sites g.catalog.tolerated declared g.clients g.capacity g.areas
       g.room g.format
-  pub containers : g.catalog.containers ≡ containers_of declared
+  pub containers : g.catalog.containers ≡ containers_of declared.items
+  pub friends : g.catalog.friends ≡ declared.friends
 
 -- the grounds of all bytes whose object has these parts
 abbrev pub AreGroundsOf : Parts → Grounds → Type 0

@@ -1,5 +1,5 @@
 -- The parts of a scenario: what its link and the items of its lists spell (docs/FORMATS.md, "Scenarios").
-use Rattle.std.specs.Prelude.{◌≡◌, ◌≢◌, ◌⊎◌, ◌+◌, ◌≤◌, ◌<◌, ◌^◌, ℕ, nat_eq, List, [], ◌∷◌, length, map, take, codes, count_by, Some, Ok, All}
+use Rattle.std.specs.Prelude.{◌≡◌, ◌≢◌, ◌⊎◌, ◌+◌, ◌≤◌, ◌<◌, ◌^◌, ℕ, nat_eq, List, [], ◌∷◌, length, map, take, codes, count_by, Option, Some, Ok, All}
 use Rattle.hex.specs.Hex.{decode_of}
 use Rattle.serde_json.specs.Data.{Data, Members, no_members, member, number, string, array, unsigned}
 use Rattle.serde_json.specs.Find.{get_member}
@@ -41,6 +41,11 @@ pub record AreContainers (sites : ℕ) (values : List Data) (declared : List Ite
   pub spelled : values ≡ map container_spelled declared
   pub numbers : All (λ c. c.0 < 2 ^ 32) declared
   pub right : AreRight sites declared
+
+-- what is declared: the containers, and which of them has the friend lists, if one has
+pub record Declared : Type 0 where
+  pub items : List Item
+  pub friends : Option ℕ
 
 -- a client: its site, and its bytes in hex of either case
 pub record SpellsClient (value : Data) (client : Client) : Type 0 where

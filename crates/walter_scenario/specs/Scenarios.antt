@@ -1,24 +1,24 @@
 -- The scenario that bytes spell, and the place of what is wrong with them: JSON as serde_json reads it, whose outermost
--- value is an object with thirteen keys, of which eight may be absent (docs/FORMATS.md, "Scenarios").
+-- value is an object with fourteen keys, of which nine may be absent (docs/FORMATS.md, "Scenarios").
 use Rattle.std.specs.Prelude.{◌≡◌, ◌⊎◌, ◌≤◌, ◌<◌, ℕ, List, [], length, codes, Option, Some, None, IsSome, IsUtf8}
 use Rattle.serde_json.specs.Data.{Data, Members, no_members, member, object}
 use Rattle.serde_json.specs.Find.{get_member}
 use Rattle.serde_json.specs.Read.{read}
-use Rattle.walter_base.specs.Catalogs.{Item, containers_of}
+use Rattle.walter_base.specs.Catalogs.{Item, containers_of, IsOfSets}
 use Rattle.walter_base.specs.declared.format.Format.{Format}
 use Rattle.walter_base.specs.declared.format.Format.TheVariants.{First, Second}
 use Rattle.walter_base.specs.Sizes.{most_in}
 use Rattle.walter_base.specs.Vectors.{most_sites}
 use Rattle.walter_link.specs.declared.chooser.Link.{Link}
 use Rattle.walter_scenario.specs.declared.place.Place.{Place}
-use Rattle.walter_scenario.specs.declared.place.Place.TheVariants.{TooLong, Json, Key, Sites, F, Containers, Clients, Capacity, Areas, Room, Format as AtFormat, Link as AtLink, Ticks, Threads, Arms, Steps}
+use Rattle.walter_scenario.specs.declared.place.Place.TheVariants.{TooLong, Json, Key, Sites, F, Containers, Friends, Clients, Capacity, Areas, Room, Format as AtFormat, Link as AtLink, Ticks, Threads, Arms, Steps}
 use Rattle.walter_scenario.specs.declared.place.ReadFault.{ReadFault}
 use Rattle.walter_scenario.specs.declared.place.ReadFault.TheVariants.{Refused, NoMemory}
 use Rattle.walter_scenario.specs.declared.scenario.Arm.{Arm}
 use Rattle.walter_scenario.specs.declared.scenario.Client.{Client}
 use Rattle.walter_scenario.specs.declared.scenario.Scenario.{Scenario}
 use Rattle.walter_scenario.specs.declared.scenario.Step.{Step}
-use Rattle.walter_scenario.specs.Parts.{whole, list, HasMember, AreContainers, AreClients, IsCapacity, IsAreas, IsRoom, number_of_format, SpellLink, IsTicks, IsThreads, AreArms, AreSteps, IsWrongAt}
+use Rattle.walter_scenario.specs.Parts.{whole, list, HasMember, AreContainers, Declared, AreClients, IsCapacity, IsAreas, IsRoom, number_of_format, SpellLink, IsTicks, IsThreads, AreArms, AreSteps, IsWrongAt}
 
 -- the keys that a scenario needs
 abbrev pub IsNeeded : List ℕ → Type 0
@@ -26,10 +26,11 @@ IsNeeded key =
     (key ≡ codes "sites") ⊎ (key ≡ codes "f") ⊎ (key ≡ codes "containers") ⊎ (key ≡ codes "clients")
     ⊎ (key ≡ codes "steps")
 
--- those, and eight that may be absent
+-- those, and nine that may be absent
 abbrev pub IsKey : List ℕ → Type 0
 IsKey key =
-    IsNeeded key ⊎ (key ≡ codes "capacity") ⊎ (key ≡ codes "areas") ⊎ (key ≡ codes "room") ⊎ (key ≡ codes "format")
+    IsNeeded key ⊎ (key ≡ codes "friends") ⊎ (key ≡ codes "capacity")
+    ⊎ (key ≡ codes "areas") ⊎ (key ≡ codes "room") ⊎ (key ≡ codes "format")
     ⊎ (key ≡ codes "link") ⊎ (key ≡ codes "ticks") ⊎ (key ≡ codes "threads") ⊎ (key ≡ codes "arms")
 
 -- no other key is there
@@ -41,6 +42,13 @@ AreKnown (member key value members) = IsKey key × AreKnown members
 pub record AreKeys (members : Members) : Type 0 where
   pub known : AreKnown members
   pub needed : (key : List ℕ) → IsNeeded key → IsSome (get_member key members)
+
+-- the container of these that the value of its key gives has the friend lists, which are sets; none where the key is
+-- absent
+abbrev pub GivesFriends : List Item → Option Data → Option ℕ → Type 0
+GivesFriends items None friends = friends ≡ None
+GivesFriends items (Some value) None = ⊥
+GivesFriends items (Some value) (Some number) = (value ≡ whole number) × IsOfSets items number
 
 -- the capacity that the value of its key gives, or the common one where the key is absent
 abbrev pub GivesCapacity : Option Data → ℕ → Type 0
@@ -128,61 +136,67 @@ pub record HasContainers (bytes : List ℕ) (members : Members) (sites tolerated
   pub spelled : HasMember members (codes "containers") (list values)
   pub are : AreContainers sites values declared
 
+-- and this one of them for the friend lists
+pub record HasFriends (bytes : List ℕ) (members : Members) (sites tolerated : ℕ)
+    (declared : Declared) : Type 0 where
+  pub has_containers : HasContainers bytes members sites tolerated declared.items
+  pub given : GivesFriends declared.items (get_member (codes "friends") members) declared.friends
+
 -- and these clients
 pub record HasClients (bytes : List ℕ) (members : Members) (sites tolerated : ℕ)
-    (declared : List Item) (clients : List Client) : Type 0 where
-  pub has_containers : HasContainers bytes members sites tolerated declared
+    (declared : Declared) (clients : List Client) : Type 0 where
+  pub has_friends : HasFriends bytes members sites tolerated declared
   pub values : List Data
   pub spelled : HasMember members (codes "clients") (list values)
   pub are : AreClients sites values clients
 
 -- and this capacity
 pub record HasCapacity (bytes : List ℕ) (members : Members) (sites tolerated : ℕ)
-    (declared : List Item) (clients : List Client) (capacity : ℕ) : Type 0 where
+    (declared : Declared) (clients : List Client) (capacity : ℕ) : Type 0 where
   pub has_clients : HasClients bytes members sites tolerated declared clients
   pub given : GivesCapacity (get_member (codes "capacity") members) capacity
 
 -- and so many areas
 pub record HasAreas (bytes : List ℕ) (members : Members) (sites tolerated : ℕ)
-    (declared : List Item) (clients : List Client) (capacity areas : ℕ) : Type 0 where
+    (declared : Declared) (clients : List Client) (capacity areas : ℕ) : Type 0 where
   pub has_capacity : HasCapacity bytes members sites tolerated declared clients capacity
   pub given : GivesAreas (get_member (codes "areas") members) areas capacity
 
 -- and room for so many entries of each trail
 pub record HasRoom (bytes : List ℕ) (members : Members) (sites tolerated : ℕ)
-    (declared : List Item) (clients : List Client) (capacity areas room : ℕ) : Type 0 where
+    (declared : Declared) (clients : List Client) (capacity areas room : ℕ) : Type 0 where
   pub has_areas : HasAreas bytes members sites tolerated declared clients capacity areas
   pub given : GivesRoom (get_member (codes "room") members) room
 
 -- and this format
 pub record HasFormat (bytes : List ℕ) (members : Members) (sites tolerated : ℕ)
-    (declared : List Item) (clients : List Client) (capacity areas room : ℕ) (format : Format) : Type 0 where
+    (declared : Declared) (clients : List Client) (capacity areas room : ℕ) (format : Format) : Type 0 where
   pub has_room : HasRoom bytes members sites tolerated declared clients capacity areas room
   pub given : GivesFormat (get_member (codes "format") members) sites format
 
 -- and this link
 pub record HasLink (bytes : List ℕ) (members : Members) (sites tolerated : ℕ)
-    (declared : List Item) (clients : List Client) (capacity areas room : ℕ) (format : Format) (link : Link) : Type 0 where
+    (declared : Declared) (clients : List Client) (capacity areas room : ℕ) (format : Format) (link : Link) : Type 0 where
   pub has_format : HasFormat bytes members sites tolerated declared clients capacity areas room format
   pub given : GivesLink (get_member (codes "link") members) link
 
 -- and so many ticks
 pub record HasTicks (bytes : List ℕ) (members : Members) (sites tolerated : ℕ)
-    (declared : List Item) (clients : List Client) (capacity areas room : ℕ) (format : Format) (link : Link)
+    (declared : Declared) (clients : List Client) (capacity areas room : ℕ) (format : Format) (link : Link)
     (ticks : ℕ) : Type 0 where
   pub has_link : HasLink bytes members sites tolerated declared clients capacity areas room format link
   pub given : GivesTicks (get_member (codes "ticks") members) ticks
 
 -- and so many threads
 pub record HasThreads (bytes : List ℕ) (members : Members) (sites tolerated : ℕ)
-    (declared : List Item) (clients : List Client) (capacity areas room : ℕ) (format : Format) (link : Link)
+    (declared : Declared) (clients : List Client) (capacity areas room : ℕ) (format : Format) (link : Link)
     (ticks threads : ℕ) : Type 0 where
   pub has_ticks : HasTicks bytes members sites tolerated declared clients capacity areas room format link ticks
   pub given : GivesThreads (get_member (codes "threads") members) threads
 
 -- and these arms
 pub record HasArms (bytes : List ℕ) (members : Members) (sites tolerated : ℕ)
-    (declared : List Item) (clients : List Client) (capacity areas room : ℕ) (format : Format) (link : Link) (ticks threads : ℕ)
+    (declared : Declared) (clients : List Client) (capacity areas room : ℕ) (format : Format) (link : Link) (ticks threads : ℕ)
     (arms : List Arm) : Type 0 where
   pub has_threads : HasThreads bytes members sites tolerated declared clients capacity areas room format link ticks threads
   pub given : GivesArms sites (get_member (codes "arms") members) arms
@@ -190,10 +204,11 @@ pub record HasArms (bytes : List ℕ) (members : Members) (sites tolerated : ℕ
 -- the scenario is what the bytes spell
 pub record IsReading (bytes : List ℕ) (s : Scenario) : Type 0 where
   pub members : Members
-  pub declared : List Item
+  pub declared : Declared
   pub has_arms : HasArms bytes members s.catalog.sites s.catalog.tolerated declared s.clients s.capacity s.areas s.room
       s.format s.link s.ticks s.threads s.arms
-  pub containers : s.catalog.containers ≡ containers_of declared
+  pub containers : s.catalog.containers ≡ containers_of declared.items
+  pub friends : s.catalog.friends ≡ declared.friends
   pub values : List Data
   pub spelled : HasMember members (codes "steps") (list values)
   pub are : AreSteps s.catalog.sites (length s.clients) values s.steps
@@ -213,50 +228,54 @@ IsRefusedAt bytes (Containers place) =
     (members : Members) × (sites : ℕ) × (tolerated : ℕ) × (value : Data) × HasTolerated bytes members sites tolerated
     × HasMember members (codes "containers") value
     × IsWrongAt (λ values. (declared : List Item) × AreContainers sites values declared) value place
+IsRefusedAt bytes Friends =
+    (members : Members) × (sites : ℕ) × (tolerated : ℕ) × (items : List Item)
+    × HasContainers bytes members sites tolerated items
+    × ((friends : Option ℕ) → ¬ GivesFriends items (get_member (codes "friends") members) friends)
 IsRefusedAt bytes (Clients place) =
-    (members : Members) × (sites : ℕ) × (tolerated : ℕ) × (declared : List Item) × (value : Data)
-    × HasContainers bytes members sites tolerated declared × HasMember members (codes "clients") value
+    (members : Members) × (sites : ℕ) × (tolerated : ℕ) × (declared : Declared) × (value : Data)
+    × HasFriends bytes members sites tolerated declared × HasMember members (codes "clients") value
     × IsWrongAt (λ values. (clients : List Client) × AreClients sites values clients) value place
 IsRefusedAt bytes Capacity =
-    (members : Members) × (sites : ℕ) × (tolerated : ℕ) × (declared : List Item) × (clients : List Client)
+    (members : Members) × (sites : ℕ) × (tolerated : ℕ) × (declared : Declared) × (clients : List Client)
     × HasClients bytes members sites tolerated declared clients
     × ((capacity : ℕ) → ¬ GivesCapacity (get_member (codes "capacity") members) capacity)
 IsRefusedAt bytes Areas =
-    (members : Members) × (sites : ℕ) × (tolerated : ℕ) × (declared : List Item) × (clients : List Client)
+    (members : Members) × (sites : ℕ) × (tolerated : ℕ) × (declared : Declared) × (clients : List Client)
     × (capacity : ℕ) × HasCapacity bytes members sites tolerated declared clients capacity
     × ((areas : ℕ) → ¬ GivesAreas (get_member (codes "areas") members) areas capacity)
 IsRefusedAt bytes Room =
-    (members : Members) × (sites : ℕ) × (tolerated : ℕ) × (declared : List Item) × (clients : List Client)
+    (members : Members) × (sites : ℕ) × (tolerated : ℕ) × (declared : Declared) × (clients : List Client)
     × (capacity : ℕ) × (areas : ℕ) × HasAreas bytes members sites tolerated declared clients capacity areas
     × ((room : ℕ) → ¬ GivesRoom (get_member (codes "room") members) room)
 IsRefusedAt bytes AtFormat =
-    (members : Members) × (sites : ℕ) × (tolerated : ℕ) × (declared : List Item) × (clients : List Client)
+    (members : Members) × (sites : ℕ) × (tolerated : ℕ) × (declared : Declared) × (clients : List Client)
     × (capacity : ℕ) × (areas : ℕ) × (room : ℕ)
     × HasRoom bytes members sites tolerated declared clients capacity areas room
     × ((format : Format) → ¬ GivesFormat (get_member (codes "format") members) sites format)
 IsRefusedAt bytes AtLink =
-    (members : Members) × (sites : ℕ) × (tolerated : ℕ) × (declared : List Item) × (clients : List Client)
+    (members : Members) × (sites : ℕ) × (tolerated : ℕ) × (declared : Declared) × (clients : List Client)
     × (capacity : ℕ) × (areas : ℕ) × (room : ℕ) × (format : Format)
     × HasFormat bytes members sites tolerated declared clients capacity areas room format
     × ((link : Link) → ¬ GivesLink (get_member (codes "link") members) link)
 IsRefusedAt bytes Ticks =
-    (members : Members) × (sites : ℕ) × (tolerated : ℕ) × (declared : List Item) × (clients : List Client)
+    (members : Members) × (sites : ℕ) × (tolerated : ℕ) × (declared : Declared) × (clients : List Client)
     × (capacity : ℕ) × (areas : ℕ) × (room : ℕ) × (format : Format) × (link : Link)
     × HasLink bytes members sites tolerated declared clients capacity areas room format link
     × ((ticks : ℕ) → ¬ GivesTicks (get_member (codes "ticks") members) ticks)
 IsRefusedAt bytes Threads =
-    (members : Members) × (sites : ℕ) × (tolerated : ℕ) × (declared : List Item) × (clients : List Client)
+    (members : Members) × (sites : ℕ) × (tolerated : ℕ) × (declared : Declared) × (clients : List Client)
     × (capacity : ℕ) × (areas : ℕ) × (room : ℕ) × (format : Format) × (link : Link) × (ticks : ℕ)
     × HasTicks bytes members sites tolerated declared clients capacity areas room format link ticks
     × ((threads : ℕ) → ¬ GivesThreads (get_member (codes "threads") members) threads)
 IsRefusedAt bytes (Arms place) =
-    (members : Members) × (sites : ℕ) × (tolerated : ℕ) × (declared : List Item) × (clients : List Client)
+    (members : Members) × (sites : ℕ) × (tolerated : ℕ) × (declared : Declared) × (clients : List Client)
     × (capacity : ℕ) × (areas : ℕ) × (room : ℕ) × (format : Format) × (link : Link) × (ticks : ℕ) × (threads : ℕ) × (value : Data)
     × HasThreads bytes members sites tolerated declared clients capacity areas room format link ticks threads
     × HasMember members (codes "arms") value
     × IsWrongAt (λ values. (arms : List Arm) × AreArms sites values arms) value place
 IsRefusedAt bytes (Steps place) =
-    (members : Members) × (sites : ℕ) × (tolerated : ℕ) × (declared : List Item) × (clients : List Client)
+    (members : Members) × (sites : ℕ) × (tolerated : ℕ) × (declared : Declared) × (clients : List Client)
     × (capacity : ℕ) × (areas : ℕ) × (room : ℕ) × (format : Format) × (link : Link) × (ticks : ℕ) × (threads : ℕ) × (arms : List Arm)
     × (value : Data)
     × HasArms bytes members sites tolerated declared clients capacity areas room format link ticks threads arms

@@ -3,11 +3,13 @@ ghost use Rattle.std.specs.Prelude.{◌≡◌, ◌≢◌, ◌<◌, ◌≤◌, ma
 ghost use Rattle.serde_json.specs.Data.{string};
 ghost use Rattle.serde_json.specs.View.{view};
 ghost use Rattle.walter_base.specs.declared.names.Kind.{Kind};
-ghost use Rattle.walter_scenario.specs.Faults.{IsContainersFault};
+ghost use Rattle.walter_scenario.specs.Faults.{IsCatalogFault};
 ghost use Rattle.walter_scenario.specs.Fronts.{IsContainer, SpellsNoContainer, IsFront, IsCatalog};
+ghost use Rattle.walter_scenario.specs.Members.{data_in};
 ghost use Rattle.walter_scenario.specs.Parts.{kind_word, container_spelled};
 ghost use Rattle.walter_base.specs.Vectors.{most_sites};
 
+use crate::friends::{friends_of, named};
 use crate::place::{Place, ReadFault};
 use crate::values::{items_of, string_of, triple_of, whole_of};
 use serde_json::Value;
@@ -51,24 +53,30 @@ fn front_of(alloc: Global, values: &[Value]) -> Result<Vec<(u32, Kind, SiteId)>,
     Ok(front)
 }
 
-/// The catalog of the containers that the value spells, for so many sites, of which so many may be lost.
+/// The catalog of the containers that the value spells, for so many sites, of which so many may be lost. The given
+/// value names that of the friend lists; where it is absent there are none.
 pub fn catalog_of(
     alloc: Global,
     sites: u8,
     tolerated: u8,
     value: &Value,
+    given: Option<&Value>,
 ) -> Result<Catalog, ReadFault>
     requires some { 0 < sites }
     requires most { sites ≤ most_sites }
     requires fewer { tolerated < sites }
-    ensures ok { IfOk result (IsCatalog sites tolerated (view value.now)) }
-    ensures fault { IfErr result (IsContainersFault sites (view value.now)) }
+    ensures ok { IfOk result (IsCatalog sites tolerated (view value.now) (data_in given.entry)) }
+    ensures fault { IfErr result (IsCatalogFault sites (view value.now) (data_in given.entry)) }
 {
     let values = items_of(value).ok_or(Place::Containers(0))?;
     let front = front_of(alloc, values)?;
-    match Catalog::build(alloc, sites, tolerated, &front) {
-        Ok(catalog) if front.len() == values.len() => Ok(catalog),
-        Ok(_) => Err(ReadFault::from(Place::Containers(front.len()))),
+    let friends = friends_of(&front, given);
+    match Catalog::build(alloc, sites, tolerated, &front, named(friends)) {
+        Ok(_) if front.len() != values.len() => {
+            Err(ReadFault::from(Place::Containers(front.len())))
+        }
+        Ok(_) if friends.is_none() => Err(ReadFault::from(Place::Friends)),
+        Ok(catalog) => Ok(catalog),
         Err(CatalogFault::Bad { index }) => Err(ReadFault::from(Place::Containers(index))),
         Err(CatalogFault::NoMemory) => Err(ReadFault::NoMemory),
     }

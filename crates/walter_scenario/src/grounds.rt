@@ -35,7 +35,7 @@ pub fn grounds_of(alloc: Global, parts: Parts<'_>) -> Result<Grounds, ReadFault>
 {
     let sites = sites_of(parts.sites).ok_or(Place::Sites)?;
     let tolerated = tolerated_of(sites, parts.tolerated).ok_or(Place::F)?;
-    let catalog = catalog_of(alloc, sites, tolerated, parts.containers)?;
+    let catalog = catalog_of(alloc, sites, tolerated, parts.containers, parts.friends)?;
     let clients = clients_of(alloc, sites, parts.clients)?;
     let capacity = capacity_of(parts.capacity).ok_or(Place::Capacity)?;
     let areas = areas_of(parts.areas, capacity).ok_or(Place::Areas)?;

@@ -9,6 +9,7 @@ mod containers;
 mod details;
 mod faults;
 mod format;
+mod friends;
 mod grounds;
 mod laws;
 mod link;

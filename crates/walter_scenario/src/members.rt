@@ -9,12 +9,13 @@ use crate::place::Detail;
 use serde_json::{Map, Value};
 use std::alloc::Global;
 
-/// The values of the keys. Eight keys may be absent.
+/// The values of the keys. Nine keys may be absent.
 #[derive(Clone, Copy)]
 pub struct Parts<'a> {
     pub sites: &'a Value,
     pub tolerated: &'a Value,
     pub containers: &'a Value,
+    pub friends: Option<&'a Value>,
     pub clients: &'a Value,
     pub capacity: Option<&'a Value>,
     pub areas: Option<&'a Value>,
@@ -37,6 +38,7 @@ fn is_key(name: &str) -> bool
             | "containers"
             | "clients"
             | "steps"
+            | "friends"
             | "capacity"
             | "areas"
             | "room"
@@ -90,6 +92,7 @@ pub fn parts_of(members: &Map<String, Value>) -> Option<Parts<'_>>
         sites: member(members, "sites")?,
         tolerated: member(members, "f")?,
         containers: member(members, "containers")?,
+        friends: member(members, "friends"),
         clients: member(members, "clients")?,
         capacity: member(members, "capacity"),
         areas: member(members, "areas"),

@@ -15,7 +15,7 @@ pub enum Place {
     Json,
     /// A key is none of a scenario's, or one is wanting.
     #[error("the keys: wants sites, f, containers, clients and steps, \
-        and takes capacity, areas, room, format, link, ticks, threads and arms besides")]
+        and takes friends, capacity, areas, room, format, link, ticks, threads and arms besides")]
     Key,
     #[error("sites: wants a whole number from 1 to 16")]
     Sites,
@@ -25,6 +25,8 @@ pub enum Place {
     #[error("container {0}: wants [number, \"regular\" or \"cset\", site] in a list, numbers below 2^32 that rise, \
         a site below sites, at most 256")]
     Containers(usize),
+    #[error("the friends: wants the number of a container whose kind is \"cset\"")]
+    Friends,
     /// The first wrong client, counted from 0; 0 where the value is no list.
     #[error("client {0}: wants [site, bytes] in a list, a site below sites, an even number of hex digits, \
         at most 1024 of each site")]

@@ -21,6 +21,7 @@ fn said(packet: &Packet) -> (u8, u64, u64) {
         Packet::Vote(_, Answer::Later) => 2,
         Packet::Vote(_, Answer::No(Conflict::Modified { oid: _, version })) => version.seq,
         Packet::Vote(_, Answer::No(Conflict::Locked { oid: _, owner })) => owner.number,
+        Packet::Vote(_, Answer::No(Conflict::Moving { oid })) => oid.local,
         _ => 0,
     };
     (packet.kind(), packet.number(), other)
@@ -41,7 +42,7 @@ fn read(alloc: Global, bytes: &[u8]) -> Result<(u8, u64, u64), Fail> {
 }
 
 /// Each row: the bytes of a packet, in parts, and what it says.
-pub(crate) static SPELLINGS: [(&[&[u8]], (u8, u64, u64)); 17] = [
+pub(crate) static SPELLINGS: [(&[&[u8]], (u8, u64, u64)); 18] = [
     (
         &[&[1, 0, 0, 0, 0, 0, 0, 0, 7], &SECOND_HELL, b"o"],
         (1, 7, 1),
@@ -61,6 +62,7 @@ pub(crate) static SPELLINGS: [(&[&[u8]], (u8, u64, u64)); 17] = [
     (&[&VOTE, &[0, 1], &OBJECT, &[1], &MOST], (6, 1, u64::MAX)),
     (&[&VOTE, &[0, 2], &OBJECT, &TID], (6, 1, 1)),
     (&[&VOTE, &[0, 4]], (6, 1, 0)),
+    (&[&VOTE, &[0, 5], &OBJECT], (6, 1, 5)),
     (&[&[7], &NUMBER_1], (7, 1, 0)),
     (&[&[7], &MOST], (7, u64::MAX, 0)),
     (&[&[8], &NUMBER_1], (8, 1, 0)),
@@ -78,7 +80,7 @@ fn packets_are_read_and_written_again(rt: HostRuntime) -> Result<(), Fail> {
 
 /// Each row: bytes that spell no packet among two sites, in parts. In the last two the third site is not there, and an
 /// object stands twice.
-static REFUSED: [&[&[u8]]; 16] = [
+static REFUSED: [&[&[u8]]; 18] = [
     &[],
     &[&[0], &[0; 8]],
     &[&[9], &[0; 8]],
@@ -91,6 +93,8 @@ static REFUSED: [&[&[u8]]; 16] = [
     &[&VOTE, &[1, 0]],
     &[&VOTE, &[0]],
     &[&VOTE, &[0, 3]],
+    &[&VOTE, &[0, 5]],
+    &[&VOTE, &[0, 6], &OBJECT],
     &[&VOTE, &[0, 1, 0]],
     &[&[8], &[0; 9]],
     &THIRD,

@@ -29,8 +29,16 @@ const ZERO: [u8; 37] = [
     0, 0, 0, 0, 0, 0,
 ];
 
+/// A token of two sites, which sees one commit of the second.
+const TOKEN: [u8; 18] = [0x8B, 2, 0, 0, 0, 0, 0, 0, 0, 0, 0, 0, 0, 0, 0, 0, 0, 1];
+
+/// The object 1, 5 is locked for the first transaction of site 1.
+const BUSY: [u8; 27] = [
+    0xE0, 17, 0, 0, 0, 1, 0, 0, 0, 0, 0, 0, 0, 5, 1, 0, 0, 0, 1, 0, 0, 0, 0, 0, 0, 0, 1,
+];
+
 /// Each reply as `Debug` shows it, and its spelling.
-pub(crate) static SPELLINGS: [(&str, &[u8]); 38] = [
+pub(crate) static SPELLINGS: [(&str, &[u8]); 48] = [
     (
         "Started(Tid { site: SiteId(1), epoch: 2, number: 3 })",
         &[0x80, 1, 0, 0, 0, 2, 0, 0, 0, 0, 0, 0, 0, 3],
@@ -105,6 +113,29 @@ pub(crate) static SPELLINGS: [(&str, &[u8]); 38] = [
     ("Refused(Memory)", &[0xE0, 13]),
     ("Refused(WrongSite)", &[0xE0, 14]),
     ("Refused(NotIssued)", &[0xE0, 15]),
+    (
+        "Aborted(Moving { oid: ObjId { container: 1, local: 5 } })",
+        &[0x86, 4, 0, 0, 0, 1, 0, 0, 0, 0, 0, 0, 0, 5],
+    ),
+    (
+        "Token(Snapshot { numbers: Few(Few { sites: 2, numbers: [0, 1, 0, 0, 0, 0, 0, 0] }) })",
+        &TOKEN,
+    ),
+    ("Refused(NotHolder { site: SiteId(1) })", &[0xE0, 16, 1]),
+    (
+        "Refused(Busy { oid: ObjId { container: 1, local: 5 }, \
+            owner: Tid { site: SiteId(1), epoch: 1, number: 1 } })",
+        &BUSY,
+    ),
+    ("Refused(BadTarget)", &[0xE0, 18]),
+    (
+        "Refused(Behind { site: SiteId(1), have: 256 })",
+        &[0xE0, 19, 1, 0, 0, 0, 0, 0, 0, 1, 0],
+    ),
+    ("Refused(BadVector)", &[0xE0, 20]),
+    ("Refused(Reserved)", &[0xE0, 21]),
+    ("Refused(SamePerson)", &[0xE0, 22]),
+    ("Refused(NoFriends)", &[0xE0, 23]),
 ];
 
 /// The reply that the bytes spell, as `Debug` shows it. The bytes are what is written of it.
@@ -131,10 +162,14 @@ fn each_reply_has_its_spelling(rt: HostRuntime) -> Result<(), Fail> {
 }
 
 /// Each row: a body that spells no reply, and the place of what is wrong.
-static BAD: [(&[u8], u32); 32] = [
+static BAD: [(&[u8], u32); 40] = [
     (&[], 0),
     (&[1], 0),
-    (&[0x8B, 0x82], 0),
+    (&[0x8B, 0x82], 1),
+    (&[0x8C, 0x82], 0),
+    (&[0x8B, 0], 1),
+    (&[0x8B, 17, 0], 1),
+    (&[0x8B, 1, 0], 3),
     (&[0x81], 1),
     (&[0x81, 2, 0], 1),
     (&[0x88], 1),
@@ -142,13 +177,17 @@ static BAD: [(&[u8], u32); 32] = [
     (&[0x88, 6], 1),
     (&[0x88, 0, 0], 2),
     (&[0x8A, 1, 0], 3),
-    (&[0x8B], 0),
+    (&[0x8B], 1),
+    (&[0x8C], 0),
     (&[0xE0, 0], 1),
     (&[0xE0, 11, 0], 2),
-    (&[0xE0, 16], 1),
+    (&[0xE0, 16], 2),
+    (&[0xE0, 18, 0], 2),
+    (&[0xE0, 24], 1),
     (&[0xE0, 7, 1, 0], 4),
     (&[0xE0, 10, 0, 0, 0, 0, 0, 0, 0, 123, 0], 11),
-    (&[0x86, 4], 1),
+    (&[0x86, 4], 2),
+    (&[0x86, 5], 1),
     (&[0x86, 1, 0, 0, 0, 1], 6),
     (&[0x86, 3, 0], 2),
     (&[0xE0, 8, 0, 0], 4),
@@ -167,7 +206,7 @@ static BAD: [(&[u8], u32); 32] = [
 ];
 
 /// The same, of a body that is cut off at a length.
-static CUT: [(&[u8], usize, u32); 7] = [
+static CUT: [(&[u8], usize, u32); 9] = [
     (&HELLO, 10, 10),
     (&SET, 20, 20),
     (&TWO, 21, 21),
@@ -175,6 +214,8 @@ static CUT: [(&[u8], usize, u32); 7] = [
     (&FALLING, 28, 28),
     (&FALLING, 29, 21),
     (&ZERO, 36, 36),
+    (&TOKEN, 17, 17),
+    (&BUSY, 26, 26),
 ];
 
 /// The place of what is wrong with a body that spells no reply, cut off at a length.

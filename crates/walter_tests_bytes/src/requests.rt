@@ -1,5 +1,6 @@
 //! Tests of requests as bytes.
-use std::alloc::Global;
+use crate::parts::NUMBER_1;
+use std::alloc::{AllocError, Global};
 use std::test::Fail;
 use walter_request::{RequestFault, decode, encode};
 
@@ -32,8 +33,22 @@ const SET_READ_ID: [u8; 21] = [
     7, 0, 0, 0, 1, 0, 0, 0, 0, 0, 0, 0, 5, 255, 255, 255, 255, 255, 255, 255, 255,
 ];
 
+/// The container 1 is handed over to site 2.
+const HANDOVER: [u8; 6] = [11, 0, 0, 0, 1, 2];
+
+/// A StartAt at a token of two sites, which sees one commit of the second.
+const START_AT: [u8; 18] = [12, 2, 0, 0, 0, 0, 0, 0, 0, 0, 0, 0, 0, 0, 0, 0, 0, 1];
+
+/// The persons 5 and 7 become friends.
+const BEFRIEND: [u8; 17] = [14, 0, 0, 0, 0, 0, 0, 0, 5, 0, 0, 0, 0, 0, 0, 0, 7];
+
+/// The greatest person and the least are friends no more.
+const UNFRIEND: [u8; 17] = [
+    15, 255, 255, 255, 255, 255, 255, 255, 255, 0, 0, 0, 0, 0, 0, 0, 0,
+];
+
 /// Each request as `Debug` shows it, and its spelling.
-pub(crate) static SPELLINGS: [(&str, &[u8]); 12] = [
+pub(crate) static SPELLINGS: [(&str, &[u8]); 17] = [
     ("Start", &[1]),
     ("Read(ObjId { container: 1, local: 5 })", &READ),
     (
@@ -63,6 +78,14 @@ pub(crate) static SPELLINGS: [(&str, &[u8]); 12] = [
             10, 255, 255, 255, 255, 255, 255, 255, 255, 255, 255, 255, 255, 255,
         ],
     ),
+    ("Handover(1, SiteId(2))", &HANDOVER),
+    (
+        "StartAt(Snapshot { numbers: Few(Few { sites: 2, numbers: [0, 1, 0, 0, 0, 0, 0, 0] }) })",
+        &START_AT,
+    ),
+    ("Token", &[13]),
+    ("Befriend(5, 7)", &BEFRIEND),
+    ("Unfriend(18446744073709551615, 0)", &UNFRIEND),
 ];
 
 /// The request that the bytes spell, as `Debug` shows it. The bytes are what is written of it.
@@ -89,15 +112,29 @@ fn each_request_has_its_spelling(rt: HostRuntime) -> Result<(), Fail> {
 }
 
 /// Each row: a body that spells no request, and the place of what is wrong.
-static BAD: [(&[u8], u32); 15] = [
+static BAD: [(&[u8], u32); 29] = [
     (&[], 0),
     (&[0], 0),
     (&[4], 1),
     (&[7], 1),
     (&[10], 1),
-    (&[11], 0),
+    (&[11], 1),
+    (&[16], 0),
+    (&[255], 0),
     (&[4, 2, 0], 3),
-    (&[11, 2, 0], 0),
+    (&[11, 2, 0], 3),
+    (&[16, 2, 0], 0),
+    (&[11, 0, 0, 0, 1, 2, 0], 6),
+    (&[12], 1),
+    (&[12, 0], 1),
+    (&[12, 17], 1),
+    (&[12, 0, 0, 0, 0, 0, 0, 0, 0, 0], 1),
+    (&[12, 255, 0, 0, 0, 0, 0, 0, 0, 0], 1),
+    (&[12, 1], 2),
+    (&[12, 16], 2),
+    (&[13, 0], 1),
+    (&[14], 1),
+    (&[15, 0, 0, 0, 0, 0, 0, 0, 5], 9),
     (
         &[
             7, 0, 0, 0, 1, 0, 0, 0, 0, 0, 0, 0, 5, 0, 0, 0, 0, 0, 0, 0, 9, 0,
@@ -113,14 +150,76 @@ static BAD: [(&[u8], u32); 15] = [
 ];
 
 /// The same, of a body that is cut off at a length.
-static CUT: [(&[u8], usize, u32); 6] = [
+static CUT: [(&[u8], usize, u32); 10] = [
     (&SET_ADD, 20, 20),
     (&SET_DEL, 13, 13),
     (&SET_READ, 12, 12),
     (&SET_READ_ID, 14, 14),
     (&WRITE, 21, 21),
     (&LEVEL, 13, 13),
+    (&HANDOVER, 5, 5),
+    (&START_AT, 17, 17),
+    (&BEFRIEND, 16, 16),
+    (&UNFRIEND, 9, 9),
 ];
+
+/// How many sites a token is of, how many of its bytes are wanting, or else how many stand behind it, and the place of
+/// what is wrong, if anything is.
+static WIDTHS: [(u8, usize, usize, Option<u32>); 11] = [
+    (0, 0, 0, Some(1)),
+    (1, 0, 0, None),
+    (1, 1, 0, Some(9)),
+    (1, 0, 1, Some(10)),
+    (8, 0, 0, None),
+    (15, 0, 0, None),
+    (16, 0, 0, None),
+    (16, 1, 0, Some(129)),
+    (16, 0, 1, Some(130)),
+    (17, 0, 0, Some(1)),
+    (17, 0, 1, Some(1)),
+];
+
+/// The body of a StartAt at a token of so many sites, of which so many bytes are wanting, or stand behind.
+fn start_at(
+    alloc: Global,
+    width: u8,
+    wanting: usize,
+    behind: usize,
+) -> Result<Vec<u8>, AllocError> {
+    let mut body = Vec::new(alloc);
+    body.extend_from_slice(&[12, width])?;
+    for _ in 0..width {
+        body.extend_from_slice(&NUMBER_1)?;
+    }
+    body.truncate(body.len().saturating_sub(wanting));
+    for _ in 0..behind {
+        body.extend_from_slice(&[0])?;
+    }
+    Ok(body)
+}
+
+/// Whether the body is that of a bad frame, wrong at this place; where none is told, whether it is read, and written
+/// again.
+fn is_wrong_at(alloc: Global, body: &[u8], at: Option<u32>) -> Result<bool, Fail> {
+    if body.len() > 200 {
+        return Ok(false);
+    }
+    match decode(alloc, body) {
+        Ok(request) => Ok(at.is_none() && encode(alloc, &request)?.as_slice() == body),
+        Err(RequestFault::BadFrame { at: place }) => Ok(at == Some(place)),
+        Err(RequestFault::NoMemory) => Ok(false),
+    }
+}
+
+#[test]
+fn a_token_has_from_one_to_sixteen_numbers(rt: HostRuntime) -> Result<(), Fail> {
+    let alloc = rt.alloc();
+    for &(width, wanting, behind, at) in &WIDTHS {
+        let body = start_at(alloc, width, wanting, behind)?;
+        assert!(rt; is_wrong_at(alloc, &body, at)?);
+    }
+    Ok(())
+}
 
 /// The place of what is wrong with a body that spells no request, cut off at a length.
 fn wrong_place(alloc: Global, body: &[u8], length: usize) -> Option<u32> {

@@ -71,6 +71,52 @@ fn other_formats_are_refused(rt: HostRuntime) -> Result<(), Fail> {
     Ok(())
 }
 
+/// What stands behind the friends, where there are a regular container 1 and sets in 3.
+const TWO_CONTAINERS: &[u8] =
+    br#","sites":1,"f":0,"containers":[[1,"regular",0],[3,"cset",0]],"clients":[],"steps":[]}"#;
+
+/// Each row: the key of the friends, or another one, and the container that has the friend lists; or the place that is
+/// wrong.
+static FRIENDS: [(&[u8], Result<Option<u32>, Place>); 10] = [
+    (br#"{"room":0"#, Ok(None)),
+    (br#"{"friends":3"#, Ok(Some(3))),
+    (br#"{"friends":1"#, Err(Place::Friends)),
+    (br#"{"friends":2"#, Err(Place::Friends)),
+    (br#"{"friends":4294967299"#, Err(Place::Friends)),
+    (br#"{"friends":null"#, Err(Place::Friends)),
+    (br#"{"friends":"3""#, Err(Place::Friends)),
+    (br#"{"friends":3.0"#, Err(Place::Friends)),
+    (br#"{"friends":1,"capacity":0"#, Err(Place::Friends)),
+    (br#"{"friends":3,"capacity":0"#, Err(Place::Capacity)),
+];
+
+#[test]
+fn friend_lists_are_in_a_container_of_sets(rt: HostRuntime) -> Result<(), Fail> {
+    for (front, wanted) in &FRIENDS {
+        let found = match reading(rt.alloc(), &[front, TWO_CONTAINERS])? {
+            Ok(scenario) => Ok(scenario.catalog.friends()),
+            Err((place, _)) => Err(place),
+        };
+        assert!(rt; found == *wanted, "{found:?}");
+    }
+    Ok(())
+}
+
+/// What stands behind the friends, where the second container is wrong.
+const FALLING: &[u8] =
+    br#","sites":1,"f":0,"containers":[[3,"cset",0],[3,"cset",0]],"clients":[],"steps":[]}"#;
+
+#[test]
+fn a_wrong_container_is_named_before_the_friends(rt: HostRuntime) -> Result<(), Fail> {
+    for front in [br#"{"friends":3"#, br#"{"friends":4"#] {
+        let Err((place, _)) = reading(rt.alloc(), &[front, FALLING])? else {
+            return Err("the text spells no scenario".into());
+        };
+        assert!(rt; place == Place::Containers(1), "{place:?}");
+    }
+    Ok(())
+}
+
 /// Each row: a step that upgrades a site of two, and what is wrong with it.
 static WRONG_STEPS: [(&[u8], StepFault); 4] = [
     (br#"["upgrade",2]"#, StepFault::Site { sites: 2 }),

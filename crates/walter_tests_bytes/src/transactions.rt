@@ -135,9 +135,38 @@ pub(crate) fn spellings(alloc: Global) -> Result<Vec<Vec<u8>>, Fail> {
     ]?)
 }
 
+/// Each row: the update of a transaction of site 0 of two, and whether it is read. The container 1 is handed over to site
+/// 1; its site is wanting; a byte stands behind it.
+static MOVES: [(&[u8], bool); 3] = [
+    (&[4, 0, 0, 0, 1, 1], true),
+    (&[4, 0, 0, 0, 1], false),
+    (&[4, 0, 0, 0, 1, 1, 0], false),
+];
+
+fn is_move(tx: &Tx) -> bool {
+    matches!(tx.updates.as_slice(), [Update::Move(1, SiteId(1))])
+}
+
+#[test]
+fn a_handover_is_an_update(rt: HostRuntime) -> Result<(), Fail> {
+    let alloc = rt.alloc();
+    for &(update, is_taken) in &MOVES {
+        let mut bytes = head(alloc, &FIRST, 1)?;
+        bytes.extend_from_slice(update)?;
+        match decode(alloc, &bytes, 2, Format::First)? {
+            Some(tx) => {
+                assert!(rt; is_taken && is_move(&tx));
+                assert!(rt; encode(alloc, &tx, Format::First)?.as_slice() == bytes.as_slice());
+            }
+            None => assert!(rt; !is_taken),
+        }
+    }
+    Ok(())
+}
+
 /// The place of a byte, that byte, where the bytes are cut off, how many sites there are, and whether a transaction is
 /// read.
-static REPLACED: [(usize, u8, usize, u8, bool); 9] = [
+static REPLACED: [(usize, u8, usize, u8, bool); 10] = [
     (0, 0, 109, 1, true),
     (0, 0, 110, 1, false),
     (0, 0, 108, 1, false),
@@ -147,6 +176,7 @@ static REPLACED: [(usize, u8, usize, u8, bool); 9] = [
     (36, 1, 109, 2, true),
     (86, 0, 87, 1, false),
     (87, 4, 109, 2, false),
+    (87, 5, 109, 2, false),
 ];
 
 /// How many additions, or else writes of 4,096 bytes and the length of one more; and whether a transaction is read.

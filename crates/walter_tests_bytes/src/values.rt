@@ -2,7 +2,7 @@
 use std::test::Fail;
 use walter_base::{
     BadFrame, Cause, Counts, Level, NoMemory, ObjId, Refusal, Reply, Request, SharedBytes, SiteId,
-    Tid,
+    Snapshot, Tid, Vts,
 };
 
 const OBJECT: ObjId = ObjId {
@@ -29,7 +29,7 @@ fn copy_each<T: Clone + Drop>(items: &[T]) -> Result<(), Fail> {
     Ok(())
 }
 
-const REQUESTS: [Request; 9] = [
+const REQUESTS: [Request; 13] = [
     Request::Start,
     Request::Read(OBJECT),
     Request::SetAdd(SET, 9),
@@ -39,6 +39,10 @@ const REQUESTS: [Request; 9] = [
     Request::Commit,
     Request::Abort,
     Request::Level(TID),
+    Request::Handover(1, SiteId(1)),
+    Request::Token,
+    Request::Befriend(5, 7),
+    Request::Unfriend(5, 7),
 ];
 
 const REPLIES: [Reply; 5] = [
@@ -55,6 +59,9 @@ fn requests_and_replies_are_copied(rt: HostRuntime) -> Result<(), Fail> {
     copy_each(&REQUESTS)?;
     copy_each(&[Request::Write(OBJECT, bytes.clone()?)])?;
     copy_each(&REPLIES)?;
+    let token = Snapshot::new(rt.alloc(), Vts::zero(2))?;
+    copy_each(&[Request::StartAt(token.clone()?)])?;
+    copy_each(&[Reply::Token(token)])?;
     copy_each(&[Reply::Value(Some(bytes))])
 }
 

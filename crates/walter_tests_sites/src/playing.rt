@@ -59,7 +59,7 @@ pub(crate) fn legal_history(alloc: Global, trails: &[Trail]) -> Result<Steps> {
         bail!("there are more than sixteen sites");
     }
     let merged = merge(alloc, trails)?;
-    let history = psi_of(alloc, &merged)?;
+    let history = psi_of(alloc, &merged, None)?;
     if let Some(place) = first_illegal(alloc, history.as_slice())? {
         bail!("the step {place} of the history isn't legal");
     }

@@ -131,7 +131,7 @@ fn record_of(alloc: Global, kept: Kept) -> Mem<Record>
 fn unmade(alloc: Global) -> Result<Tables, Fail>
     ensures { IfOk result (λ tables. (catalog_of tables).sites ≡ 2) }
 {
-    let catalog = Catalog::build(alloc, 2, 0, &CONTAINERS)?;
+    let catalog = Catalog::build(alloc, 2, 0, &CONTAINERS, None)?;
     Ok(Tables::new(alloc, catalog, HERE)?)
 }
 

@@ -36,7 +36,7 @@ pub(crate) fn check_history(alloc: Global, trails: &[Trail]) -> Result<()> {
     if trails.len() > MOST_SITES {
         bail!("there are more than sixteen sites");
     }
-    let history = psi_of(alloc, &merge(alloc, trails)?)?;
+    let history = psi_of(alloc, &merge(alloc, trails)?, None)?;
     if let Some(place) = first_illegal(alloc, history.as_slice())? {
         bail!("the step {place} of the history isn't legal");
     }

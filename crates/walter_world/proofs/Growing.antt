@@ -10,8 +10,10 @@ use Rattle.walter_base.specs.declared.message.Record.TheVariants.{Boot}
 use Rattle.walter_base.specs.declared.names.SiteId.{SiteId}
 use Rattle.walter_base.specs.declared.packet.Packet.{Packet}
 use Rattle.walter_linked.specs.Catalogs.{IsWhole}
-use Rattle.walter_linked.proofs.Whole.{trails_marks, trails_got}
+use Rattle.walter_linked.proofs.Whole.{trails_marks, trails_got, trails_held}
 use Rattle.walter_psi.proofs.Lists.{slice_get-append_left, slice_get-push_cases, flat_map-push}
+use Rattle.walter_refinement.proofs.Friends.{trails_keep_friends}
+use Rattle.walter_refinement.proofs.Tokens.{trails_keep_tokens}
 use Rattle.walter_refinement.proofs.Trails.{trails_legal, trails_once, trails_named}
 use Rattle.walter_rules.specs.declared.entry.Entry.{Entry}
 use Rattle.walter_rules.specs.declared.event.Event.{Event}
@@ -305,6 +307,9 @@ promises format catalog trails whole right =
       got_right = trails_got catalog (λ k. one_area capacity format) whole trails are;
       aborts_named = trails_named catalog (λ k. one_area capacity format) whole trails are;
       marks_true = trails_marks catalog (λ k. one_area capacity format) whole trails are;
+      tokens_kept = trails_keep_tokens catalog (λ k. one_area capacity format) whole trails are;
+      friends_mutual = trails_keep_friends catalog (λ k. one_area capacity format) whole trails are;
+      held_once = trails_held catalog (λ k. one_area capacity format) whole trails are;
     }
 
 -- ---- from the openings on

@@ -5,11 +5,14 @@ use Rattle.walter_base.specs.declared.format.Format.{Format}
 use Rattle.walter_base.specs.declared.names.SiteId.{SiteId}
 use Rattle.walter_base.specs.Vectors.{most_sites}
 use Rattle.walter_linked.specs.Catalogs.{IsWhole}
+use Rattle.walter_linked.specs.Holders.{AreHeldOnce}
 use Rattle.walter_linked.specs.Marks.{AreGotRight, AreMarksTrue}
 use Rattle.walter_psi.specs.Legal.{IsLegal}
+use Rattle.walter_refinement.specs.Friends.{AreFriendsMutual}
 use Rattle.walter_refinement.specs.Named.{AreNamed}
 use Rattle.walter_refinement.specs.Once.{StandsOnce}
 use Rattle.walter_refinement.specs.Spelled.{psi_of}
+use Rattle.walter_refinement.specs.Tokens.{AreTokensKept}
 use Rattle.walter_rules.specs.declared.entry.Entry.{Entry}
 use Rattle.walter_rules.specs.declared.event.Event.{Event}
 use Rattle.walter_rules.specs.declared.event.Event.TheVariants.{Restart}
@@ -17,7 +20,7 @@ use Rattle.walter_rules.specs.Knowledge.{site_at}
 use Rattle.walter_rules.specs.Layouts.{one_area}
 use Rattle.walter_rules.specs.Merges.{Named, merge, trail_of}
 use Rattle.walter_rules.specs.Trails.{clock}
-use Rattle.walter_runs.specs.Runs.{AreRightTrails}
+use Rattle.walter_runs.specs.Runs.{AreRightTrails, stands}
 use Rattle.walter_world.specs.declared.events.Fate.TheVariants.{Fine}
 use Rattle.walter_world.specs.declared.events.WorldEvent.{WorldEvent}
 use Rattle.walter_world.specs.declared.seat.Seat.{Seat}
@@ -65,7 +68,8 @@ pub record AreRightWithPlace (format : Format) (catalog : Catalog) (trails : Lis
   pub right : (capacity : ℕ) → enough ≤ capacity → AreRightTrails catalog (λ k. one_area capacity format) trails
 
 -- So they spell a legal history, in which each commit stands once, under its number wherever it has come; each abort
--- has its cause; and what is said to be durable or visible is.
+-- has its cause; what is said to be durable or visible is; what had been committed where a token was given is seen from
+-- it on, and friend lists agree; and a container is held at one site at most.
 pub record KeepPromises (format : Format) (catalog : Catalog) (trails : List (List Entry)) : Type 0 where
   pub right_trails : AreRightWithPlace format catalog trails
   pub legal_history : IsLegal (psi_of catalog (merge trails))
@@ -74,6 +78,10 @@ pub record KeepPromises (format : Format) (catalog : Catalog) (trails : List (Li
   pub aborts_named : AreNamed catalog (reverse (merge trails))
   pub marks_true : (newer older : List Named) (n : Named) → reverse (merge trails) ≡ newer ++ n ∷ older
       → AreMarksTrue catalog older n
+  pub tokens_kept : AreTokensKept catalog (reverse (merge trails))
+  pub friends_mutual : AreFriendsMutual catalog (reverse (merge trails))
+  pub held_once : (newer older : List Named) → reverse (merge trails) ≡ newer ++ older
+      → AreHeldOnce catalog (stands catalog older)
 
 -- ---- a world
 

@@ -6,6 +6,6 @@ use Rattle.walter_psi_of.specs.Accounts.{IsToldOf}
 use Rattle.walter_psi_of.proofs.steps.psi_of.Given as goal
 
 abbrev pub invariant-loop-site : goal.invariant-loop-site
-invariant-loop-site l = (catalog : Catalog)
+invariant-loop-site l = (catalog : Catalog) → catalog.friends ≡ l.fn.friends
     → IsToldOf l.told (stands catalog (reverse (take l.site-index l.merged)))
     × (l.steps.items ≡ history catalog (reverse (take l.site-index l.merged)))

@@ -1,12 +1,13 @@
 use Rattle.std.proofs.Common.{ℕ, arith, rules}
 use Rattle.std.proofs.lemmas.Option.{MatchOption-at_some}
+use Rattle.std.proofs.lemmas.Result.{err_from_is_err_and}
 use Rattle.walter_base.specs.declared.format.Format.{Format}
 use Rattle.walter_scenario.specs.declared.place.Detail.TheVariants.{None as no_detail}
 use Rattle.walter_scenario.specs.declared.place.Place.TheVariants.{Room, Format as AtFormat}
 use Rattle.walter_scenario.specs.declared.place.ReadFault.TheVariants.{Refused}
 use Rattle.walter_scenario.specs.Members.{data_in, IsFaultOf}
 use Rattle.walter_scenario.specs.Scenarios.{GivesAreas, GivesRoom, GivesFormat}
-use Rattle.walter_scenario.proofs.Faulted.{fault_of_room, fault_of_format}
+use Rattle.walter_scenario.proofs.Faulted.{fault_of_catalog, fault_of_room, fault_of_format}
 use Rattle.walter_scenario.proofs.Sent.{all_sites}
 use Rattle.walter_scenario.proofs.grounds.grounds_of.Goals as goal
 
@@ -16,6 +17,17 @@ returns-clause-few c =
     let clients = c.in_ok-clients.ensures.ok in
     rw c.from.ensures
     (omega (arith, there.1, all_sites c.in_ok-sites.sites clients.0 c.in_ok-clients.clients.items clients.2))
+
+pub returns-in_err-catalog-clause-fault : goal.returns-in_err-catalog-clause-fault
+returns-in_err-catalog-clause-fault c =
+    let fault = err_from_is_err_and c.from_residual-in_err-catalog.result c.from_residual-in_err-catalog.ensures.1 in
+    rw (fault.1, fault.2)
+    (fault_of_catalog c.args.parts c.in_ok-sites.sites c.in_ok-tolerated.tolerated c.in_err-catalog.field-0.0
+    (MatchOption-at_some _ _ _ c.in_ok-sites.ensures.ok_part c.sites_of.ensures.there)
+    (MatchOption-at_some _ _ _ c.in_ok-sites.ensures.ok_part c.sites_of.ensures.some)
+    (MatchOption-at_some _ _ _ c.in_ok-tolerated.ensures.ok_part c.tolerated_of.ensures.there)
+    (MatchOption-at_some _ _ _ c.in_ok-tolerated.ensures.ok_part c.tolerated_of.ensures.some)
+    c.in_err-catalog.ensures.fault)
 
 pub returns-in_err-areas-clause-fault : goal.returns-in_err-areas-clause-fault
 returns-in_err-areas-clause-fault c =

@@ -12,7 +12,7 @@ use Rattle.walter_cell.specs.Cells.{CellValue, IsCell, Proceeds, TurnsTo}
 use Rattle.walter_cell.specs.declared.answers.Serve.{Serve}
 use Rattle.walter_cell.specs.declared.answers.Serve.TheVariants as serve
 use Rattle.walter_cell.specs.Entries.{IsSpent, HasPlace}
-use Rattle.walter_cell.specs.Lines.{LineValue, AwaitsWrite, NextIsWrite, is_here, IsLineAt, CanFail, HasFault, HasFaultAt}
+use Rattle.walter_cell.specs.Lines.{LineValue, AwaitsWriteOrStartAt, NextIsWriteOrStartAt, is_here, IsLineAt, CanFail, HasFault, HasFaultAt}
 use Rattle.walter_cell.specs.Nodes.{NodeValue, Takes, clock_in, entry_by}
 use Rattle.walter_cell.specs.Turns.{BringsNothing, BringsCall, ServesTo, ServesAt, AreSameBut}
 use Rattle.walter_cell.proofs.Lines.{none_there, on_err_so}
@@ -136,8 +136,8 @@ returns-in_err-next_call-clause-roomy g c =
     slice_get-get_or lines c.args.number c.index_mut.result.now (here_within lines c.args.number here)
     ∙ ap (λ x. Some x) (sym c.index_mut.ensures.value ∙ c.in-Some-index_mut.is) in
     on_err_so c.from_residual-in_err-next_call.result _
-    (λ room. subst (λ (v : CellValue g.row.D.Denot). NextIsWrite v.lines c.args.number) c.self.view_is
-    (line g d, was, subst AwaitsWrite c.in_err-next_call.ensures.same c.in_err-next_call.ensures.write))
+    (λ room. subst (λ (v : CellValue g.row.D.Denot). NextIsWriteOrStartAt v.lines c.args.number) c.self.view_is
+    (line g d, was, subst AwaitsWriteOrStartAt c.in_err-next_call.ensures.same c.in_err-next_call.ensures.needs))
 
 -- ---- no call follows, or the connection is broken
 

@@ -3,8 +3,8 @@ use Rattle.std.specs.Prelude.{IfOk, OnErr}
 use Rattle.walter_base.specs.declared.memory.NoMemory.{NoMemory}
 use Rattle.walter_conn.specs.Connections.{source_of}
 use Rattle.walter_conn.specs.declared.next.Next.{Next}
-use Rattle.walter_cell.specs.Lines.{LineValue, AwaitsWrite, IsLine, Leaves, line_of}
-use Rattle.walter_cell.proofs.Lines.{awaits_write, can_fail, line_next, told}
+use Rattle.walter_cell.specs.Lines.{LineValue, AwaitsWriteOrStartAt, IsLine, Leaves, line_of}
+use Rattle.walter_cell.proofs.Lines.{awaits_write_or_start_at, can_fail, line_next, told}
 use Rattle.walter_cell.proofs.line.Line.next_call.Goals.{in-Ok, in-Err}
 use Rattle.walter_cell.proofs.line.Line.next_call.Goals as goal
 
@@ -23,13 +23,13 @@ returns-clause-next g c = λ bytes calls is.
 pub returns-clause-can : goal.returns-clause-can
 returns-clause-can g c = λ failed. can_fail c.next.new.self failed
 
-pub returns-clause-write : goal.returns-clause-write
-returns-clause-write g c =
+pub returns-clause-needs : goal.returns-clause-needs
+returns-clause-needs g c =
     let new = line_of c.next.new.self in
     elim c.match-next.branch [
-      | in-Ok w ↦ subst (λ (r : Result Next NoMemory). OnErr r (AwaitsWrite new.incoming)) (sym w.result-is) tt
+      | in-Ok w ↦ subst (λ (r : Result Next NoMemory). OnErr r (AwaitsWriteOrStartAt new.incoming)) (sym w.result-is) tt
       | in-Err w ↦
-          let holds = w.in-Err.ensures.write in
-          subst (λ (r : Result Next NoMemory). OnErr r (AwaitsWrite new.incoming)) (sym w.result-is)
-          (awaits_write _ holds.0 holds.1 holds.2 (g.S.Source.left (source_of c.next.new.self)))
+          let holds = w.in-Err.ensures.needs in
+          subst (λ (r : Result Next NoMemory). OnErr r (AwaitsWriteOrStartAt new.incoming)) (sym w.result-is)
+          (awaits_write_or_start_at _ holds.0 holds.1 holds.2 (g.S.Source.left (source_of c.next.new.self)))
     ]

@@ -4,7 +4,7 @@ use Rattle.std.proofs.lemmas.Option.{slice_get_read}
 use Rattle.std.proofs.lemmas.Result.{IfOk-weaker, on_err_weaker}
 use Rattle.walter_base.specs.declared.names.SiteId.{SiteId}
 use Rattle.walter_cell.specs.Cells.{CellValue}
-use Rattle.walter_cell.specs.Lines.{LineValue, CanFail, IsLineAt, HasFaultAt, NextIsWrite}
+use Rattle.walter_cell.specs.Lines.{LineValue, CanFail, IsLineAt, HasFaultAt, NextIsWriteOrStartAt}
 use Rattle.walter_rules.specs.declared.entry.Entry.{Entry}
 use Rattle.walter_trail.specs.Calls.{calls_of}
 use Rattle.walter_cluster.specs.Benches.{BenchValue, Keeps, lines_at, trails_of}
@@ -211,10 +211,10 @@ returns-clause-roomy g c =
     let one = one_at old.cells c.from.result h.0 a a c.from.ensures there c.index_mut.ensures.value in
     subst (λ (v : BenchValue g.row.D.Denot). OnErr c.serve.result ((i : SiteId) (cell : CellValue g.row.D.Denot)
     → slice_get v.homes c.args.number ≡ Some i → slice_get v.cells i.0 ≡ Some cell → 0 < cell.node.room
-    → NextIsWrite cell.lines c.args.number)) c.self.view_is
-    (on_err_weaker c.serve.result (λ (roomy : 0 < a.node.room → NextIsWrite a.lines c.args.number) i cell at cell_there room.
+    → NextIsWriteOrStartAt cell.lines c.args.number)) c.self.view_is
+    (on_err_weaker c.serve.result (λ (roomy : 0 < a.node.room → NextIsWriteOrStartAt a.lines c.args.number) i cell at cell_there room.
     let same : h ≡ i = one_there old.homes c.args.number h i home at in
     let at_home : slice_get old.cells h.0 ≡ Some cell = subst (λ (s : SiteId). slice_get old.cells s.0 ≡ Some cell) (sym same) cell_there in
     let is : a ≡ cell = one_there old.cells h.0 a cell one.was at_home in
-    subst (λ (x : CellValue g.row.D.Denot). NextIsWrite x.lines c.args.number) is
+    subst (λ (x : CellValue g.row.D.Denot). NextIsWriteOrStartAt x.lines c.args.number) is
     (roomy (subst (λ (x : CellValue g.row.D.Denot). 0 < x.node.room) (sym is) room))) c.serve.ensures.roomy)

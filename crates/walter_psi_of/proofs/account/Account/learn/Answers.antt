@@ -36,8 +36,8 @@ returns c catalog older told =
     let sessions = c.commit-2.new.self.sessions.items in
     let same : sessions ≡ was.sessions.items = c.commit-2.ensures.sessions ∙ c.commit.ensures.sessions in
     elim c.answer.result as (λ (r : Result (Unit {0}) NoMemory).
-    ((wrote : Option Record) (snapshot : List ℕ) (ss : Sessions) → sessions_at i sessions ≡ named ss
-    → OnOk r (sessions_at i now.sessions.items ≡ named (sessions_after e.event e.came.outcome wrote snapshot ss)))
+    ((friends : Option ℕ) (wrote : Option Record) (snapshot : List ℕ) (ss : Sessions) → sessions_at i sessions ≡ named ss
+    → OnOk r (sessions_at i now.sessions.items ≡ named (sessions_after friends e.event e.came.outcome wrote snapshot ss)))
     → ((other : SiteId) → same_site i other ≡ false
     → OnOk r (sessions_at other now.sessions.items ≡ sessions_at other sessions))
     → OnOk r (IsToldOf now (stands catalog ((i, e) ∷ older)))) [
@@ -47,6 +47,6 @@ returns c catalog older told =
           ∙ ap (λ tids. tids ++ own_commit i e.came.wrote) c.in_ok-commit.ensures.commits))
           (λ other apart. others other apart ∙ ap (sessions_at other) same)
           (sym c.does_go_down.ensures ∙ c.if-does_go_down.false)
-          (λ wrote snapshot ss is. here wrote snapshot ss (ap (sessions_at i) same ∙ is))
+          (λ wrote snapshot ss is. here catalog.friends wrote snapshot ss (ap (sessions_at i) same ∙ is))
       | Err none ↦ λ here others. tt
     ] c.answer.ensures.here c.answer.ensures.others
