@@ -10,17 +10,17 @@ use Rattle.walter_rules.specs.Knowledge.{declared_home, holder}
 
 -- to which site each container was handed last, and for how many more containers there is room
 pub record Table : Type 0 where
-  pub last : List (ℕ × SiteId)
+  pub last : List Handed
   pub room : ℕ
 
 -- the site to which the container was handed last, and where it never was that of the catalog
-abbrev pub home_in : Catalog → Table → ℕ → SiteId
-home_in catalog homes container =
-    option_map_or (λ site. site) (lookup (nat_eq container) homes.last) (declared_home catalog container)
+abbrev pub home_in : Catalog → List Handed → ℕ → SiteId
+home_in catalog last container =
+    option_map_or (λ site. site) (lookup (nat_eq container) last) (declared_home catalog container)
 
 -- these are the holders by what was handed over, in order
-abbrev pub AreHomesBy : Catalog → List Handed → Table → Type 0
-AreHomesBy catalog moves homes = (container : ℕ) → home_in catalog homes container ≡ holder catalog moves container
+abbrev pub AreHomesBy : Catalog → List Handed → List Handed → Type 0
+AreHomesBy catalog moves last = (container : ℕ) → home_in catalog last container ≡ holder catalog moves container
 
 -- what the updates hand over can be kept without memory
 abbrev pub CanKeep : Table → List Update → Type 0

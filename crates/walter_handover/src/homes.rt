@@ -41,7 +41,7 @@ fn count(updates: &[Update]) -> usize
 impl Homes {
     /// Nothing was handed over.
     pub fn new(alloc: Global) -> Homes
-        ensures { (catalog : Declared) → AreHomesBy catalog [] result }
+        ensures { (catalog : Declared) → AreHomesBy catalog [] result.last }
     {
         Homes {
             last: IndexMap::new(alloc),
@@ -50,7 +50,7 @@ impl Homes {
 
     /// The site at which the container is preferred.
     pub fn home(&self, catalog: &Catalog, container: u32) -> SiteId
-        ensures { result ≡ home_in catalog.now self.now container }
+        ensures { result ≡ home_in catalog.now self.now.last container }
     {
         match self.last.get(&container) {
             Some(site) => *site,
@@ -62,6 +62,7 @@ impl Homes {
     pub fn reserve(&mut self, updates: &[Update]) -> Mem<()>
         ensures room { OnOk result (CanKeep self.new updates.now) }
         ensures last { self.new.last ≡ self.old.last }
+        ensures more { self.old.room ≤ self.new.room }
     {
         self.last.reserve(count(updates))?;
         Ok(())
@@ -70,8 +71,8 @@ impl Homes {
     /// Keeps what the updates hand over, in their order, without taking memory.
     pub fn keep(&mut self, updates: &[Update])
         requires { CanKeep self.old updates.now }
-        ensures { (catalog : Declared) (moves : List Handed) → AreHomesBy catalog moves self.old
-            → AreHomesBy catalog (moves ++ moves_of updates.now) self.new }
+        ensures { (catalog : Declared) (moves : List Handed) → AreHomesBy catalog moves self.old.last
+            → AreHomesBy catalog (moves ++ moves_of updates.now) self.new.last }
     {
         for update in updates {
             self.hand(update);
@@ -81,8 +82,8 @@ impl Homes {
     /// Keeps what one update hands over.
     fn hand(&mut self, update: &Update)
         requires { length (moved update.now) ≤ self.old.room }
-        ensures homes { (catalog : Declared) (moves : List Handed) → AreHomesBy catalog moves self.old
-            → AreHomesBy catalog (moves ++ moved update.now) self.new }
+        ensures homes { (catalog : Declared) (moves : List Handed) → AreHomesBy catalog moves self.old.last
+            → AreHomesBy catalog (moves ++ moved update.now) self.new.last }
         ensures room { self.old.room ≤ self.new.room + length (moved update.now) }
     {
         match update {

@@ -15,7 +15,7 @@ use crate::leaving::{decide, start, update};
 use crate::tables::Tables;
 use walter_base::{Call, Mem, Reply, Update};
 
-#[tactic(auto, unfolding(crate::specs::Sites::values_of, crate::specs::Sites::site_of, crate::specs::Sites::catalog_of))]
+#[tactic(auto, unfolding(crate::specs::Sites::values_of, crate::specs::Sites::site_of, crate::specs::Sites::catalog_of, crate::specs::Sites::last_of))]
 impl Tables {
     /// Makes room for what the reply changes. A reply that changes nothing takes none.
     pub fn reserve_reply(&mut self, client: u32, reply: &Reply) -> Mem<()>

@@ -11,7 +11,7 @@ ghost use Rattle.walter_tables.specs.Sites.{values_of, site_of, catalog_of, Stan
 use crate::tables::Tables;
 use walter_base::{Level, Mem, Refusal, Reply, Request, Tid};
 
-#[tactic(auto, unfolding(crate::specs::Sites::values_of, crate::specs::Sites::site_of, crate::specs::Sites::catalog_of))]
+#[tactic(auto, unfolding(crate::specs::Sites::values_of, crate::specs::Sites::site_of, crate::specs::Sites::catalog_of, crate::specs::Sites::last_of))]
 impl Tables {
     /// What a client is answered to all but a Commit. A SetReadId, an Abort and a Level take no memory.
     pub fn reply_to(&self, client: u32, request: &Request) -> Mem<Reply>

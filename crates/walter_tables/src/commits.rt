@@ -12,7 +12,7 @@ ghost use Rattle.walter_tables.specs.Answering.{rule_by};
 ghost use Rattle.walter_tables.specs.Keeping.{GoesOn, AreUnlocked, objects_here};
 ghost use Rattle.walter_tables.specs.Open.{IsOpenAt};
 ghost use Rattle.walter_tables.specs.Planning.{expected_of, IsUp};
-ghost use Rattle.walter_tables.specs.Sites.{values_of, site_of, catalog_of, Stands};
+ghost use Rattle.walter_tables.specs.Sites.{values_of, site_of, catalog_of, last_of, Stands};
 
 use crate::plan::Planned;
 use crate::tables::Tables;
@@ -48,7 +48,7 @@ fn transaction_of(alloc: Global, session: &Session, slow: u64) -> Mem<Tx>
     })
 }
 
-#[tactic(auto, unfolding(crate::specs::Sites::values_of, crate::specs::Sites::site_of, crate::specs::Sites::catalog_of))]
+#[tactic(auto, unfolding(crate::specs::Sites::values_of, crate::specs::Sites::site_of, crate::specs::Sites::catalog_of, crate::specs::Sites::last_of))]
 impl Tables {
     /// An answer without a record, and with nothing put out.
     pub fn answers(&self, reply: Reply) -> Planned
@@ -166,7 +166,7 @@ impl Tables {
     /// A slow commit begins, and the other sites at which what it writes is preferred are asked.
     fn plan_slow(&self, session: &Session, written: &Objects) -> Mem<Planned>
         requires written { written.now ≡ objects_of session.now.updates.items }
-        requires clear { AreUnlocked self.now (objects_here (catalog_of self.now) (site_of self.now) session.now.updates.items) }
+        requires clear { AreUnlocked self.now (objects_here (catalog_of self.now) (last_of self.now) (site_of self.now) session.now.updates.items) }
         ensures rule { IfOk result (λ p. (K : Knowledge) → Stands self.now K → expected_of p
             ≡ begins_slow (catalog_of self.now) (site_of self.now) K (session_view session.now)) }
         ensures on { IfOk result (λ p. IfSome p.rec (GoesOn self.now)) }

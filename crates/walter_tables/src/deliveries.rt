@@ -43,7 +43,7 @@ pub fn takes(rec: MaybeRecord, sends: Sends) -> Planned
     }
 }
 
-#[tactic(auto, unfolding(crate::specs::Sites::values_of, crate::specs::Sites::site_of, crate::specs::Sites::catalog_of))]
+#[tactic(auto, unfolding(crate::specs::Sites::values_of, crate::specs::Sites::site_of, crate::specs::Sites::catalog_of, crate::specs::Sites::last_of))]
 impl Tables {
     /// To the site that the packet came from.
     fn back(&self, to: SiteId, packet: Packet) -> Mem<Sends>

@@ -4,7 +4,7 @@ ghost use Rattle.walter_base.specs.declared.message.Record.{Record as Written};
 ghost use Rattle.walter_rules.specs.Learning.{slow_number};
 ghost use Rattle.walter_rules.specs.Log.{commit_at};
 ghost use Rattle.walter_tables.specs.Keeping.{IsMadeFor, HasRoomFor, GoesOn};
-ghost use Rattle.walter_tables.specs.Sites.{values_of, site_of, catalog_of, Follows};
+ghost use Rattle.walter_tables.specs.Sites.{values_of, site_of, catalog_of, last_of, Follows};
 
 use crate::counting::count_seen;
 use crate::made::Made;
@@ -14,13 +14,13 @@ use walter_base::{Objects, Record, SiteId, Tid, Tx};
 use walter_rows::{append_all, count_commit};
 use walter_rules::Held;
 
-#[tactic(auto, unfolding(crate::specs::Sites::values_of, crate::specs::Sites::site_of, crate::specs::Sites::catalog_of))]
+#[tactic(auto, unfolding(crate::specs::Sites::values_of, crate::specs::Sites::site_of, crate::specs::Sites::catalog_of, crate::specs::Sites::last_of))]
 impl Tables {
     /// Keeps what a record tells. It takes no memory.
     pub fn keep(&mut self, rec: Record, made: Made)
         requires on { GoesOn self.old rec }
         requires room { HasRoomFor self.old rec }
-        requires made { IsMadeFor (catalog_of self.old) (site_of self.old) rec made }
+        requires made { IsMadeFor (catalog_of self.old) (last_of self.old) (site_of self.old) rec made }
         ensures stands { Follows self.old rec self.new }
         ensures sessions { self.new.sessions ≡ self.old.sessions }
         ensures site { site_of self.new ≡ site_of self.old }
@@ -56,7 +56,7 @@ impl Tables {
     fn keep_own(&mut self, seq: u64, tx: Tx, made: Made)
         requires on { GoesOn self.old (Written.Own seq tx) }
         requires room { HasRoomFor self.old (Written.Own seq tx) }
-        requires made { IsMadeFor (catalog_of self.old) (site_of self.old) (Written.Own seq tx) made }
+        requires made { IsMadeFor (catalog_of self.old) (last_of self.old) (site_of self.old) (Written.Own seq tx) made }
         ensures stands { Follows self.old (Written.Own seq tx) self.new }
         ensures sessions { self.new.sessions ≡ self.old.sessions }
         ensures site { site_of self.new ≡ site_of self.old }
@@ -76,7 +76,7 @@ impl Tables {
     fn keep_got(&mut self, from: SiteId, seq: u64, tx: Tx, made: Made)
         requires on { GoesOn self.old (Written.Got from seq tx) }
         requires room { HasRoomFor self.old (Written.Got from seq tx) }
-        requires made { IsMadeFor (catalog_of self.old) (site_of self.old) (Written.Got from seq tx) made }
+        requires made { IsMadeFor (catalog_of self.old) (last_of self.old) (site_of self.old) (Written.Got from seq tx) made }
         ensures stands { Follows self.old (Written.Got from seq tx) self.new }
         ensures sessions { self.new.sessions ≡ self.old.sessions }
         ensures site { site_of self.new ≡ site_of self.old }
@@ -147,7 +147,7 @@ impl Tables {
     fn keep_begun(&mut self, slow: u64, tx: Tx, made: Made)
         requires on { GoesOn self.old (Written.SlowBegin slow tx) }
         requires room { HasRoomFor self.old (Written.SlowBegin slow tx) }
-        requires made { IsMadeFor (catalog_of self.old) (site_of self.old) (Written.SlowBegin slow tx) made }
+        requires made { IsMadeFor (catalog_of self.old) (last_of self.old) (site_of self.old) (Written.SlowBegin slow tx) made }
         ensures stands { Follows self.old (Written.SlowBegin slow tx) self.new }
         ensures sessions { self.new.sessions ≡ self.old.sessions }
         ensures site { site_of self.new ≡ site_of self.old }

@@ -6,7 +6,7 @@ ghost use Rattle.walter_log.specs.Logged.{room_of};
 ghost use Rattle.walter_rows.specs.Rows.{HaveRoom};
 ghost use Rattle.walter_rules.specs.Knowledge.{Knowledge};
 ghost use Rattle.walter_tables.specs.Keeping.{IsMadeFor, HasRoomFor, GoesOn, IsKnownSite, updates_at, preferred_for, asked_for, objects_for, objects_here, asked_of};
-ghost use Rattle.walter_tables.specs.Sites.{values_of, site_of, catalog_of, Stands};
+ghost use Rattle.walter_tables.specs.Sites.{values_of, site_of, catalog_of, last_of, Stands};
 
 use crate::made::Made;
 use crate::tables::Tables;
@@ -17,11 +17,11 @@ use walter_durable::PreferredSites;
 use walter_objects::{objects_at, objects_of, participants};
 use walter_rows::{make_room, rows_told};
 
-#[tactic(auto, unfolding(crate::specs::Sites::values_of, crate::specs::Sites::site_of, crate::specs::Sites::catalog_of))]
+#[tactic(auto, unfolding(crate::specs::Sites::values_of, crate::specs::Sites::site_of, crate::specs::Sites::catalog_of, crate::specs::Sites::last_of))]
 impl Tables {
     /// What goes with the record.
     pub fn make(&self, rec: &Record) -> Mem<Made>
-        ensures { IfOk result (IsMadeFor (catalog_of self.now) (site_of self.now) rec.now) }
+        ensures { IfOk result (IsMadeFor (catalog_of self.now) (last_of self.now) (site_of self.now) rec.now) }
     {
         let alloc = self.alloc;
         let rows = rows_told(alloc, rec)?;
@@ -58,7 +58,7 @@ impl Tables {
     /// Makes room for what the record brings, which is of a site of the catalog.
     pub fn reserve(&mut self, rec: &Record, made: &Made) -> Mem<()>
         requires site { IsKnownSite (catalog_of self.old) rec.now }
-        requires made { IsMadeFor (catalog_of self.old) (site_of self.old) rec.now made.now }
+        requires made { IsMadeFor (catalog_of self.old) (last_of self.old) (site_of self.old) rec.now made.now }
         ensures room { OnOk result (HasRoomFor self.new rec.now) }
         ensures on { GoesOn self.old rec.now → GoesOn self.new rec.now }
         ensures stands { (K : Knowledge) → Stands self.old K → Stands self.new K }

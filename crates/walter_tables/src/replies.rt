@@ -17,7 +17,7 @@ use walter_base::{Cause, Kind, Mem, NoMemory, ObjId, Refusal, Reply, SharedBytes
 use walter_rows::{count_read, counts_read, value_read};
 use walter_session::Session;
 
-#[tactic(auto, unfolding(crate::specs::Sites::values_of, crate::specs::Sites::site_of, crate::specs::Sites::catalog_of))]
+#[tactic(auto, unfolding(crate::specs::Sites::values_of, crate::specs::Sites::site_of, crate::specs::Sites::catalog_of, crate::specs::Sites::last_of))]
 impl Tables {
     pub(crate) fn start_reply(&self, client: u32) -> Mem<Reply>
         ensures rule { IfOk result (IsReplyBy self.now client Asked.Start) }
