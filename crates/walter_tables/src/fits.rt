@@ -16,7 +16,7 @@ use crate::made::Made;
 use crate::same::is_same;
 use crate::tables::Tables;
 use walter_base::{ObjId, Record, SiteId, Tx, Vts};
-use walter_objects::{are_declared, are_lockable, is_peer};
+use walter_objects::{are_declared, are_local, are_regular, is_peer};
 
 #[tactic(auto, unfolding(crate::specs::Sites::values_of, crate::specs::Sites::site_of, crate::specs::Sites::catalog_of, crate::specs::Sites::last_of))]
 impl Tables {
@@ -156,7 +156,8 @@ impl Tables {
         self.epoch > 0
             && is_peer(&self.catalog, self.site, from)
             && self.locks.is_free(from, slow)
-            && are_lockable(&self.catalog, self.site, objects)
+            && are_regular(&self.catalog, objects)
+            && are_local(&self.catalog, &self.homes, self.site, objects)
             && self.are_unlocked(objects)
     }
 

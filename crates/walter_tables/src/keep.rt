@@ -6,7 +6,7 @@ ghost use Rattle.walter_rules.specs.Log.{commit_at};
 ghost use Rattle.walter_tables.specs.Keeping.{IsMadeFor, HasRoomFor, GoesOn};
 ghost use Rattle.walter_tables.specs.Sites.{values_of, site_of, catalog_of, last_of, Follows};
 
-use crate::counting::count_seen;
+use crate::counting::{count_seen, hand_seen};
 use crate::made::Made;
 use crate::over::{commit_decided, end_undecided, release_over};
 use crate::tables::Tables;
@@ -51,6 +51,7 @@ impl Tables {
         self.epoch = epoch;
         self.locks.unlock_all(self.site);
         self.slow.boot();
+        self.wanted.end_all();
     }
 
     fn keep_own(&mut self, seq: u64, tx: Tx, made: Made)
@@ -65,11 +66,13 @@ impl Tables {
         let slow = tx.slow;
         count_commit(&mut self.totals, tx.updates.as_slice());
         self.placed = None;
+        self.homes.keep(tx.updates.as_slice());
         self.log.append(Held { seq, tx });
         append_all(&mut self.history, made.rows);
         self.spread.commit_own();
         self.durable.commit_own(made.preferred);
         commit_decided(&mut self.slow, slow);
+        self.wanted.end(slow);
         self.locks.unlock(self.site, slow);
     }
 
@@ -98,6 +101,7 @@ impl Tables {
         let slow = self.slow_number_at(from, seq);
         count_seen(&mut self.totals, &self.log, from, seq);
         self.placed = None;
+        hand_seen(&mut self.homes, &self.log, from, seq);
         self.spread.commit(from);
         release_over(&mut self.locks, from, slow);
     }
@@ -155,6 +159,7 @@ impl Tables {
     {
         self.locks.lock(self.site, slow, tx.tid, made.objects);
         self.slow.begin(slow, tx, made.asked);
+        self.wanted.begin(slow, made.sites);
     }
 
     fn keep_ended(&mut self, slow: u64)
@@ -164,6 +169,7 @@ impl Tables {
         ensures catalog { catalog_of self.new ≡ catalog_of self.old }
     {
         end_undecided(&mut self.slow, slow);
+        self.wanted.end(slow);
         self.locks.unlock(self.site, slow);
     }
 }
