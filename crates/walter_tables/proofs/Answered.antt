@@ -6,7 +6,7 @@ use Rattle.walter_base.specs.declared.catalog.Catalog.{Catalog}
 use Rattle.walter_base.specs.declared.message.BadFrame.{BadFrame}
 use Rattle.walter_base.specs.declared.message.Record.{Record}
 use Rattle.walter_base.specs.declared.message.Reply.{Reply}
-use Rattle.walter_base.specs.declared.message.Reply.TheVariants.{Started, Value, Done, Set, Count, Committed, Aborted, Deciding, Level, Ended, Unsure, Refused}
+use Rattle.walter_base.specs.declared.message.Reply.TheVariants.{Started, Value, Done, Set, Count, Committed, Aborted, Deciding, Level, Ended, Unsure, Token, Refused}
 use Rattle.walter_base.specs.declared.message.Request.{Request}
 use Rattle.walter_base.specs.declared.names.SiteId.{SiteId}
 use Rattle.walter_base.specs.ByClient.{without}
@@ -69,8 +69,8 @@ sound_answered catalog i K S starts2 sessions2 = record {
 
 pub stand_answered : (V : Values) (K : Knowledge) → StandFor V K → (event : Event) (outcome : Outcome)
     (wrote : Option Record) (starts2 : ℕ) (sessions2 : Sessions)
-    → starts2 ≡ starts_after outcome K.starts
-    → sessions2 ≡ sessions_after event outcome wrote (vector_of V.catalog K) K.sessions
+    → starts2 ≡ starts_after event outcome K.starts
+    → sessions2 ≡ sessions_after V.catalog.friends event outcome wrote (vector_of V.catalog K) K.sessions
     → StandFor (record V { starts = starts2; sessions = sessions2 }) (answered V.catalog event outcome wrote K)
 stand_answered V K S event outcome wrote starts2 sessions2 starts sessions = record {
   epoch = S.epoch;
@@ -79,6 +79,7 @@ stand_answered V K S event outcome wrote starts2 sessions2 starts sessions = rec
   log = S.log;
   rows = S.rows;
   totals = S.totals;
+  homes = S.homes;
   spread = record { received = S.spread.received; seen = S.spread.seen; durable = S.spread.durable };
   durable = record {
     count = S.durable.count;
@@ -90,9 +91,10 @@ stand_answered V K S event outcome wrote starts2 sessions2 starts sessions = rec
   };
   locks = record { parts = S.locks.parts; owners = S.locks.owners };
   slow = record { last = S.slow.last; kept = S.slow.kept };
+  wanted = S.wanted;
   sessions = sessions;
-  sound = sound_answered V.catalog V.site K S.sound (starts_after outcome K.starts)
-      (sessions_after event outcome wrote (vector_of V.catalog K) K.sessions);
+  sound = sound_answered V.catalog V.site K S.sound (starts_after event outcome K.starts)
+      (sessions_after V.catalog.friends event outcome wrote (vector_of V.catalog K) K.sessions);
 }
 
 -- a reply that ends the session, and one that leaves it as it was
@@ -108,6 +110,7 @@ DoesLeave (Value value) = Unit {0}
 DoesLeave (Set counts) = Unit {0}
 DoesLeave (Count count) = Unit {0}
 DoesLeave (Level level) = Unit {0}
+DoesLeave (Token token) = Unit {0}
 DoesLeave (Refused refusal) = Unit {0}
 DoesLeave reply = ⊥
 
@@ -142,6 +145,7 @@ module _ (V : Values) (K : Knowledge) (S : StandFor V K) (client : ℕ) (call : 
       by (Count count) ends = absurd ends
       by (Deciding tid) ends = absurd ends
       by (Level level) ends = absurd ends
+      by (Token token) ends = absurd ends
       by (Refused refusal) ends = absurd ends
 
   pub stand_left : (reply : Reply) → DoesLeave reply → StandThen V.sessions reply
@@ -153,6 +157,8 @@ module _ (V : Values) (K : Knowledge) (S : StandFor V K) (client : ℕ) (call : 
       stand_answered V K S event (Replied (Count count)) wrote V.starts V.sessions S.starts S.sessions
   stand_left (Level level) leaves =
       stand_answered V K S event (Replied (Level level)) wrote V.starts V.sessions S.starts S.sessions
+  stand_left (Token token) leaves =
+      stand_answered V K S event (Replied (Token token)) wrote V.starts V.sessions S.starts S.sessions
   stand_left (Refused refusal) leaves =
       stand_answered V K S event (Replied (Refused refusal)) wrote V.starts V.sessions S.starts S.sessions
   stand_left (Started tid) leaves = absurd leaves
