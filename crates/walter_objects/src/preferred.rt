@@ -34,12 +34,7 @@ pub fn objects_at(
 }
 
 /// Whether all are.
-pub fn are_local(
-    catalog: &Catalog,
-    homes: &Homes,
-    site: SiteId,
-    objects: &[ObjId],
-) -> bool
+pub fn are_local(catalog: &Catalog, homes: &Homes, site: SiteId, objects: &[ObjId]) -> bool
     ensures { result ≡ are_local_among catalog.now homes.now.last site objects.now }
 {
     objects.iter().all(|oid| home(catalog, homes, *oid) == site)
