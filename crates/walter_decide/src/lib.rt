@@ -8,7 +8,7 @@ ghost use Rattle.walter_decide.specs.Firsts.{conflict_at, first_conflict};
 use walter_base::{Conflict, ObjId, Objects, Rows, Vts};
 
 /// What stands in the way of a commit of the object: a version outside the snapshot, or else a lock.
-fn check<R: Rows>(oid: ObjId, snapshot: &Vts, rows: &R) -> Result<(), Conflict>
+pub fn check<R: Rows>(oid: ObjId, snapshot: &Vts, rows: &R) -> Result<(), Conflict>
     ensures { result_err result ≡ conflict_at (R.versions rows.now) (R.lock rows.now) snapshot.now oid }
 {
     if let Err(version) = rows.unmodified(oid, snapshot) {

@@ -1,6 +1,6 @@
 -- Who is owed the news that a stop ended its transaction.
 use Rattle.std.specs.Prelude.{◌≡◌, ℕ, List, [], Option, Some, None, Ok, Err}
-use Rattle.walter_base.specs.declared.message.Request.TheVariants.{Level}
+use Rattle.walter_base.specs.declared.message.Request.TheVariants.{Level, Handover, Token}
 use Rattle.walter_base.specs.declared.names.Tid.{Tid}
 use Rattle.walter_base.specs.ByClient.{of_client}
 use Rattle.walter_rules.specs.declared.event.Event.TheVariants.{Given}
@@ -24,9 +24,12 @@ owed_by debts lost client = owed (session_in client (sessions_lost lost)) (of_cl
 abbrev pub IsDebtOf : (ℕ → Option Tid) → Input → Option Tid → Type 0
 IsDebtOf gone input debt = IfCall (λ client call. gone client ≡ debt) (Given input)
 
--- the transaction of which the client of an input is told in the place of an answer, but to a bad frame or a Level
+-- the transaction of which the client of an input is told in the place of an answer, but to a bad frame, a
+-- Level, a Handover or a Token
 abbrev pub gone_first : Option Tid → Input → Option Tid
 gone_first debt (Call client (Err bad)) = None
 gone_first debt (Call client (Ok (Level asked))) = None
+gone_first debt (Call client (Ok (Handover container to))) = None
+gone_first debt (Call client (Ok Token)) = None
 gone_first debt (Call client (Ok request)) = debt
 gone_first debt input = None

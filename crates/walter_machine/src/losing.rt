@@ -1,5 +1,5 @@
 //! What a site that goes down loses.
-ghost use Rattle.std.specs.Prelude.{◌≡◌, List, ℕ, None, IfSome};
+ghost use Rattle.std.specs.Prelude.{◌≡◌, List, Option, ℕ, None, IfSome};
 ghost use Rattle.walter_machine.specs.Comings.{IsFall};
 ghost use Rattle.walter_machine.specs.Debts.{sessions_lost};
 ghost use Rattle.walter_rules.specs.Knowledge.{Knowledge};
@@ -9,13 +9,13 @@ ghost use Rattle.walter_site.specs.Members.{Knows};
 ghost use Rattle.walter_tables.specs.Sites.{site_of, catalog_of};
 
 use std::mem;
-use walter_base::Reply;
+use walter_base::{Reply, Request};
 use walter_rules::{Event, Input, Outcome};
 use walter_session::Sessions;
 use walter_site::Site;
 
 /// A site that is up goes down by this, and loses its sessions, but for that of a client which is told that its commit is
-/// unsure.
+/// unsure. A handover is no session's.
 pub fn lose(site: &mut Option<Site>, lost: &mut Option<Sessions>, event: &Event, outcome: &Outcome)
     requires falls { IsFall event.now outcome.now }
     requires unlost { lost.old ≡ None }
@@ -41,13 +41,21 @@ fn lost_with(site: Site, event: &Event, outcome: &Outcome) -> Sessions
 // These sessions but for that of a client which is told that its commit is unsure.
 fn without_unsure(mut sessions: Sessions, event: &Event, outcome: &Outcome) -> Sessions
     requires { IsFall event.now outcome.now }
-    ensures { (snapshot : List ℕ) → sessions_of result
-        ≡ sessions_after event.now outcome.now None snapshot (sessions_of sessions) }
+    ensures { (friends : Option ℕ) (snapshot : List ℕ) → sessions_of result
+        ≡ sessions_after friends event.now outcome.now None snapshot (sessions_of sessions) }
 {
-    if let (Event::Given(Input::Call { client, .. }), Outcome::Replied(Reply::Unsure(_))) = (
-        event, outcome,
-    ) {
-        sessions.end(*client);
+    match (event, outcome) {
+        (
+            Event::Given(Input::Call {
+                call: Ok(Request::Handover(_, _)),
+                ..
+            }),
+            _,
+        ) => {}
+        (Event::Given(Input::Call { client, .. }), Outcome::Replied(Reply::Unsure(_))) => {
+            sessions.end(*client);
+        }
+        _ => {}
     }
     sessions
 }

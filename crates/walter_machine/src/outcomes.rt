@@ -79,7 +79,7 @@ pub fn gone_first(owed: Option<Tid>, input: &Input) -> Option<Tid>
 {
     match input {
         Input::Call {
-            call: Err(_) | Ok(Request::Level(_)),
+            call: Err(_) | Ok(Request::Level(_) | Request::Handover(_, _) | Request::Token),
             ..
         } => None,
         Input::Call { .. } => owed,

@@ -6,5 +6,5 @@ mod preferred;
 mod tests;
 
 pub use objects::objects_of;
-pub use preferred::{are_local, home, objects_at, participants};
+pub use preferred::{are_local, home, objects_at, participants, sites_of, wanted_at};
 pub use tests::{are_declared, are_regular, is_known, is_peer};

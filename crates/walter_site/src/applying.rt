@@ -12,9 +12,9 @@ ghost use Rattle.walter_tables.specs.Answering.{begun_in};
 ghost use Rattle.walter_tables.specs.Sites.{site_of, catalog_of, Stands};
 
 use crate::maybe_made::MaybeMade;
-use walter_base::{Call, MaybeRecord, Packet, Record, SiteId, Update};
+use walter_base::{Call, MaybeRecord, Packet, Record, SiteId};
 use walter_rules::{Input, Outcome};
-use walter_tables::Tables;
+use walter_tables::{Changes, Tables};
 
 /// The number of the slow commit that the record begins, if it begins one.
 pub fn number_begun(rec: &MaybeRecord) -> Option<u64>
@@ -52,7 +52,7 @@ pub fn take_in(
     tables: &mut Tables,
     input: &Input,
     outcome: &Outcome,
-    asked: Option<Update>,
+    asked: Changes,
     begun: Option<u64>,
 )
     requires takes_in { CanTakeIn tables.old input.now outcome.now asked }
@@ -78,7 +78,7 @@ fn take_answer(
     client: u32,
     call: &Call,
     outcome: &Outcome,
-    asked: Option<Update>,
+    asked: Changes,
     begun: Option<u64>,
 )
     requires { CanTakeIn tables.old (Given.Call client call.now) outcome.now asked }

@@ -3,17 +3,17 @@ ghost use Rattle.std.specs.Prelude.{◌≡◌, None};
 
 use crate::maybe_made::MaybeMade;
 use std::alloc::Global;
-use walter_base::{MaybeRecord, Sends, Update};
+use walter_base::{MaybeRecord, Sends};
 use walter_rules::Outcome;
-use walter_tables::Planned;
+use walter_tables::{Changes, Planned};
 
-/// What is to come of an input, with all that applying it takes: what goes with its record, and the update that the
+/// What is to come of an input, with all that applying it takes: what goes with its record, and the updates that the
 /// session of its client gets.
 #[derive(Drop)]
 pub struct Plan {
     pub planned: Planned,
     pub made: MaybeMade,
-    pub asked: Option<Update>,
+    pub asked: Changes,
 }
 
 impl Plan {
@@ -28,7 +28,7 @@ impl Plan {
                 sends: Sends::from(Vec::new(alloc)),
             },
             made: MaybeMade::none(),
-            asked: None,
+            asked: Changes::Nothing,
         }
     }
 }

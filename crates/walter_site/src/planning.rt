@@ -1,7 +1,9 @@
 //! What is to come of an input, by its kind.
 ghost use Rattle.std.specs.Prelude.{◌≡◌, IfOk, IfSome, OnErr, true};
 ghost use Rattle.walter_site.specs.Members.{IsStanding, input_rule};
+ghost use Rattle.walter_site.specs.Plans.{IsNamedIn};
 ghost use Rattle.walter_rules.specs.declared.event.Event.{Event};
+ghost use Rattle.walter_rules.specs.declared.event.Input.{Input as Given};
 ghost use Rattle.walter_rules.specs.Calls.{call_rule};
 ghost use Rattle.walter_rules.specs.Deliveries.{deliver_rule};
 ghost use Rattle.walter_rules.specs.Knowledge.{Knowledge, session_of};
@@ -21,6 +23,7 @@ pub fn plan_input(tables: &Tables, input: &Input, header: Format) -> Mem<Planned
     ensures rule { IfOk result (λ p. (K : Knowledge) → Stands tables.now K
         → expected_of p ≡ input_rule header (catalog_of tables.now) (site_of tables.now) K input.now) }
     ensures on { IfOk result (λ p. IfSome p.rec (GoesOn tables.now)) }
+    ensures named { IfOk result (λ p. IsNamedIn tables.now input.now p.rec) }
     ensures free { OnErr result (TakesMemory true (Event.Given input.now)) }
 {
     match input {
@@ -37,6 +40,7 @@ fn plan_call(tables: &Tables, client: u32, call: &Call) -> Mem<Planned>
     ensures rule { IfOk result (λ p. (K : Knowledge) → Stands tables.now K
         → expected_of p ≡ call_rule (catalog_of tables.now) (site_of tables.now) K call.now (session_of K client)) }
     ensures on { IfOk result (λ p. IfSome p.rec (GoesOn tables.now)) }
+    ensures named { IfOk result (λ p. IsNamedIn tables.now (Given.Call client call.now) p.rec) }
     ensures free { OnErr result (MayWant call.now) }
 {
     match call {
@@ -44,6 +48,7 @@ fn plan_call(tables: &Tables, client: u32, call: &Call) -> Mem<Planned>
             Ok(tables.answers(Reply::Refused(Refusal::BadFrame { at: *at })))
         }
         Ok(Request::Commit) => tables.plan_commit(client),
+        Ok(Request::Handover(container, to)) => tables.plan_handover(*container, *to),
         Ok(request) => Ok(tables.answers(tables.reply_to(client, request)?)),
     }
 }

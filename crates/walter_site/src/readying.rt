@@ -10,9 +10,9 @@ ghost use Rattle.walter_tables.specs.Keeping.{GoesOn};
 ghost use Rattle.walter_tables.specs.Sites.{site_of, catalog_of, Stands};
 
 use crate::maybe_made::MaybeMade;
-use walter_base::{Call, MaybeRecord, Mem, Reply, Update};
+use walter_base::{Call, MaybeRecord, Mem, Reply};
 use walter_rules::{Input, Outcome};
-use walter_tables::{Tables, update_of};
+use walter_tables::{Changes, Tables};
 
 /// What goes with the record, if there is one, and room for what it brings.
 pub fn make_ready(tables: &mut Tables, rec: &MaybeRecord) -> Mem<MaybeMade>
@@ -35,8 +35,8 @@ pub fn make_ready(tables: &mut Tables, rec: &MaybeRecord) -> Mem<MaybeMade>
     }
 }
 
-/// The update that the answer to a call brings, if it brings one, and room for what the answer changes.
-pub fn ready_answer(tables: &mut Tables, input: &Input, outcome: &Outcome) -> Mem<Option<Update>>
+/// The updates that the answer to a call brings, and room for what the answer changes.
+pub fn ready_answer(tables: &mut Tables, input: &Input, outcome: &Outcome) -> Mem<Changes>
     requires fits { CanBeAnsweredAny tables.old input.now outcome.now }
     ensures takes_in { IfOk result (CanTakeIn tables.new input.now outcome.now) }
     ensures free { OnErr result (TakesRoomIn input.now outcome.now) }
@@ -49,7 +49,9 @@ pub fn ready_answer(tables: &mut Tables, input: &Input, outcome: &Outcome) -> Me
 {
     match input {
         Input::Call { client, call } => ready_reply(tables, *client, call, outcome),
-        Input::Deliver { .. } | Input::Advance { .. } | Input::Tick | Input::Upgrade => Ok(None),
+        Input::Deliver { .. } | Input::Advance { .. } | Input::Tick | Input::Upgrade => {
+            Ok(Changes::Nothing)
+        }
     }
 }
 
@@ -58,7 +60,7 @@ fn ready_reply(
     client: u32,
     call: &Call,
     outcome: &Outcome,
-) -> Mem<Option<Update>>
+) -> Mem<Changes>
     requires fits { CanBeAnsweredAny tables.old (Given.Call client call.now) outcome.now }
     ensures takes_in { IfOk result (CanTakeIn tables.new (Given.Call client call.now) outcome.now) }
     ensures free { OnErr result (TakesRoomIn (Given.Call client call.now) outcome.now) }
@@ -69,19 +71,19 @@ fn ready_reply(
     ensures catalog { catalog_of tables.new ≡ catalog_of tables.old }
 {
     let Outcome::Replied(reply) = outcome else {
-        return Ok(None);
+        return Ok(Changes::Nothing);
     };
     tables.reserve_reply(client, reply)?;
-    asked_by(call, reply)
+    asked_by(tables, call, reply)
 }
 
-/// The update that the call asks for, where it is done.
-fn asked_by(call: &Call, reply: &Reply) -> Mem<Option<Update>>
-    ensures asks { IfOk result (IsAskedBy call.now reply.now) }
+/// The updates that the call asks for, where it is done.
+fn asked_by(tables: &Tables, call: &Call, reply: &Reply) -> Mem<Changes>
+    ensures asks { IfOk result (IsAskedBy (catalog_of tables.now).friends call.now reply.now) }
     ensures free { OnErr result (TakesRoom reply.now) }
 {
     match reply {
-        Reply::Done => update_of(call),
-        _ => Ok(None),
+        Reply::Done => tables.changes_of(call),
+        _ => Ok(Changes::Nothing),
     }
 }

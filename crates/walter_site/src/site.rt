@@ -12,7 +12,7 @@ use std::mem;
 use walter_base::{Format, MaybeRecord, Mem, SiteId};
 use walter_rules::Input;
 use walter_session::Sessions;
-use walter_tables::Tables;
+use walter_tables::{Changes, Tables};
 
 /// A site that is up. Contracts see its tables, which stand for what some site knows.
 #[derive(Drop)]
@@ -114,7 +114,7 @@ impl Site {
     {
         let rec = mem::replace(&mut plan.planned.rec, MaybeRecord::none());
         let made = mem::replace(&mut plan.made, MaybeMade::none());
-        let asked = mem::replace(&mut plan.asked, None);
+        let asked = mem::replace(&mut plan.asked, Changes::Nothing);
         let begun = number_begun(&rec);
         keep_any(&mut self.tables, rec, made);
         take_in(&mut self.tables, input, &plan.planned.outcome, asked, begun);

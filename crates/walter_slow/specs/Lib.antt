@@ -1,3 +1,4 @@
 pub mod Sites
 pub mod Kept
 pub mod Tables
+pub mod Wanted

@@ -6,6 +6,8 @@ mod sites;
 mod slow;
 mod slow_commit;
 mod verdict;
+mod wanted;
 
 pub use slow::SlowCommits;
 pub use verdict::Verdict;
+pub use wanted::Wanted;

@@ -1,14 +1,17 @@
 -- Tables that stand for what a site knows stand, behind an answer, for what it knows then.
-use Rattle.std.proofs.Common.{◌≡◌, ◌+◌, ℕ, suc, List, [], ◌∷◌, length, map, slice_index, Option, Result, refl, ap, sym, ◌∙◌, arith}
+use Rattle.std.proofs.Common.{◌≡◌, ◌+◌, ℕ, suc, List, [], ◌∷◌, length, map, slice_index, Option, Result, Ok, Err, refl, ap, sym, ◌∙◌, arith}
 use Rattle.std.specs.List.{range_with_len}
 use Rattle.std.proofs.lemmas.Simd.{map-map}
 use Rattle.walter_base.specs.declared.catalog.Catalog.{Catalog}
 use Rattle.walter_base.specs.declared.message.BadFrame.{BadFrame}
 use Rattle.walter_base.specs.declared.message.Record.{Record}
 use Rattle.walter_base.specs.declared.message.Reply.{Reply}
-use Rattle.walter_base.specs.declared.message.Reply.TheVariants.{Started, Value, Done, Set, Count, Committed, Aborted, Deciding, Level, Ended, Unsure, Refused}
+use Rattle.walter_base.specs.declared.message.Reply.TheVariants.{Started, Value, Done, Set, Count, Committed, Aborted, Deciding, Level, Ended, Unsure, Token, Refused}
 use Rattle.walter_base.specs.declared.message.Request.{Request}
+use Rattle.walter_base.specs.declared.message.Request.TheVariants.{Start, Read, Write, SetAdd, SetDel, SetRead, SetReadId, Commit, Abort, Level as LevelAsked, Handover, StartAt, Token as TokenAsked, Befriend, Unfriend}
 use Rattle.walter_base.specs.declared.names.SiteId.{SiteId}
+use Rattle.walter_base.specs.declared.names.Tid.{Tid}
+use Rattle.walter_base.specs.declared.names.Version.{Version}
 use Rattle.walter_base.specs.ByClient.{without}
 use Rattle.walter_rules.specs.declared.event.Event.{Event}
 use Rattle.walter_rules.specs.declared.event.Event.TheVariants.{Given}
@@ -16,7 +19,7 @@ use Rattle.walter_rules.specs.declared.event.Input.TheVariants.{Call}
 use Rattle.walter_rules.specs.declared.outcome.Outcome.{Outcome}
 use Rattle.walter_rules.specs.declared.outcome.Outcome.TheVariants.{Replied}
 use Rattle.walter_rules.specs.Knowledge.{Knowledge, site_at, vector_of}
-use Rattle.walter_rules.specs.Learning.{answered, starts_after, sessions_after}
+use Rattle.walter_rules.specs.Learning.{answered, starts_after, sessions_after, closed_by}
 use Rattle.walter_rules.specs.Sessions.{Sessions}
 use Rattle.walter_tables.specs.Sound.{IsSound}
 use Rattle.walter_tables.specs.Standing.{Values, StandFor}
@@ -45,12 +48,16 @@ sound_answered : (catalog : Catalog) (i : SiteId) (K : Knowledge) → IsSound ca
 sound_answered catalog i K S starts2 sessions2 = record {
   learned = let L = S.learned in record {
     owners = L.owners;
-    here = L.here;
+    listing = L.listing;
+    logged = L.logged;
+    homes = L.homes;
+    placed = L.placed;
     asked = L.asked;
     outside = L.outside;
     given_ = L.given_;
     own_open = L.own_open;
     declared = L.declared;
+    written = L.written;
     durable = L.durable;
     visible = L.visible;
   };
@@ -69,8 +76,8 @@ sound_answered catalog i K S starts2 sessions2 = record {
 
 pub stand_answered : (V : Values) (K : Knowledge) → StandFor V K → (event : Event) (outcome : Outcome)
     (wrote : Option Record) (starts2 : ℕ) (sessions2 : Sessions)
-    → starts2 ≡ starts_after outcome K.starts
-    → sessions2 ≡ sessions_after event outcome wrote (vector_of V.catalog K) K.sessions
+    → starts2 ≡ starts_after event outcome K.starts
+    → sessions2 ≡ sessions_after V.catalog.friends event outcome wrote (vector_of V.catalog K) K.sessions
     → StandFor (record V { starts = starts2; sessions = sessions2 }) (answered V.catalog event outcome wrote K)
 stand_answered V K S event outcome wrote starts2 sessions2 starts sessions = record {
   epoch = S.epoch;
@@ -79,6 +86,7 @@ stand_answered V K S event outcome wrote starts2 sessions2 starts sessions = rec
   log = S.log;
   rows = S.rows;
   totals = S.totals;
+  homes = S.homes;
   spread = record { received = S.spread.received; seen = S.spread.seen; durable = S.spread.durable };
   durable = record {
     count = S.durable.count;
@@ -90,10 +98,31 @@ stand_answered V K S event outcome wrote starts2 sessions2 starts sessions = rec
   };
   locks = record { parts = S.locks.parts; owners = S.locks.owners };
   slow = record { last = S.slow.last; kept = S.slow.kept };
+  wanted = S.wanted;
   sessions = sessions;
-  sound = sound_answered V.catalog V.site K S.sound (starts_after outcome K.starts)
-      (sessions_after event outcome wrote (vector_of V.catalog K) K.sessions);
+  sound = sound_answered V.catalog V.site K S.sound (starts_after event outcome K.starts)
+      (sessions_after V.catalog.friends event outcome wrote (vector_of V.catalog K) K.sessions);
 }
+
+-- a call that isn't a handover
+abbrev pub IsNoHandover : Result Request BadFrame → Type 0
+IsNoHandover (Ok (Handover container to)) = ⊥
+IsNoHandover call = Unit {0}
+
+-- a handover that is committed counts as a start; one that isn't sure to be doesn't
+module _ (V : Values) (K : Knowledge) (S : StandFor V K) (client container : ℕ) (to : SiteId) (wrote : Option Record) where
+  abbrev handing : Event
+  handing = Given (Call client (Ok (Handover container to)))
+
+  pub stand_handed : (version : Version) → StandFor (record V { starts = V.starts + 1 })
+      (answered V.catalog handing (Replied (Committed version)) wrote K)
+  stand_handed version =
+      stand_answered V K S handing (Replied (Committed version)) wrote (V.starts + 1) V.sessions
+      (ap (λ n. n + 1) S.starts) S.sessions
+
+  pub stand_unsure : (tid : Tid) → StandFor V (answered V.catalog handing (Replied (Unsure tid)) wrote K)
+  stand_unsure tid =
+      stand_answered V K S handing (Replied (Unsure tid)) wrote V.starts V.sessions S.starts S.sessions
 
 -- a reply that ends the session, and one that leaves it as it was
 abbrev pub DoesEnd : Reply → Type 0
@@ -108,6 +137,7 @@ DoesLeave (Value value) = Unit {0}
 DoesLeave (Set counts) = Unit {0}
 DoesLeave (Count count) = Unit {0}
 DoesLeave (Level level) = Unit {0}
+DoesLeave (Token token) = Unit {0}
 DoesLeave (Refused refusal) = Unit {0}
 DoesLeave reply = ⊥
 
@@ -120,21 +150,62 @@ module _ (V : Values) (K : Knowledge) (S : StandFor V K) (client : ℕ) (call : 
   StandThen sessions2 reply =
       StandFor (record V { sessions = sessions2 }) (answered V.catalog event (Replied reply) wrote K)
 
-  pub stand_ended : (reply : Reply) (sessions2 : Sessions) → DoesEnd reply → sessions2 ≡ without client V.sessions
+  pub stand_ended : IsNoHandover call → (reply : Reply) (sessions2 : Sessions) → DoesEnd reply
+      → sessions2 ≡ without client V.sessions
       → StandThen sessions2 reply
-  stand_ended reply sessions2 ends is = by reply ends
+  stand_ended other reply sessions2 ends is = by reply ends
     where
       without_it : sessions2 ≡ without client K.sessions
       without_it = is ∙ ap (without client) S.sessions
 
+      same_starts : (c : Result Request BadFrame) → IsNoHandover c → (version : Version)
+          → starts_after (Given (Call client c)) (Replied (Committed version)) K.starts ≡ K.starts
+      same_starts (Err bad) is version = refl
+      same_starts (Ok Start) is version = refl
+      same_starts (Ok (Read oid)) is version = refl
+      same_starts (Ok (Write oid bytes)) is version = refl
+      same_starts (Ok (SetAdd oid id)) is version = refl
+      same_starts (Ok (SetDel oid id)) is version = refl
+      same_starts (Ok (SetRead oid)) is version = refl
+      same_starts (Ok (SetReadId oid id)) is version = refl
+      same_starts (Ok Commit) is version = refl
+      same_starts (Ok Abort) is version = refl
+      same_starts (Ok (LevelAsked tid)) is version = refl
+      same_starts (Ok (Handover container to)) is version = absurd is
+      same_starts (Ok (StartAt token)) is version = refl
+      same_starts (Ok TokenAsked) is version = refl
+      same_starts (Ok (Befriend a b)) is version = refl
+      same_starts (Ok (Unfriend a b)) is version = refl
+
+      same_closed : (c : Result Request BadFrame) → IsNoHandover c
+          → closed_by (Given (Call client c)) K.sessions ≡ without client K.sessions
+      same_closed (Err bad) is = refl
+      same_closed (Ok Start) is = refl
+      same_closed (Ok (Read oid)) is = refl
+      same_closed (Ok (Write oid bytes)) is = refl
+      same_closed (Ok (SetAdd oid id)) is = refl
+      same_closed (Ok (SetDel oid id)) is = refl
+      same_closed (Ok (SetRead oid)) is = refl
+      same_closed (Ok (SetReadId oid id)) is = refl
+      same_closed (Ok Commit) is = refl
+      same_closed (Ok Abort) is = refl
+      same_closed (Ok (LevelAsked tid)) is = refl
+      same_closed (Ok (Handover container to)) is = absurd is
+      same_closed (Ok (StartAt token)) is = refl
+      same_closed (Ok TokenAsked) is = refl
+      same_closed (Ok (Befriend a b)) is = refl
+      same_closed (Ok (Unfriend a b)) is = refl
+
       by : (r : Reply) → DoesEnd r → StandThen sessions2 r
       by (Committed version) ends =
-          stand_answered V K S event (Replied (Committed version)) wrote V.starts sessions2 S.starts without_it
+          stand_answered V K S event (Replied (Committed version)) wrote V.starts sessions2
+          (S.starts ∙ sym (same_starts call other version)) (without_it ∙ sym (same_closed call other))
       by (Aborted cause) ends =
           stand_answered V K S event (Replied (Aborted cause)) wrote V.starts sessions2 S.starts without_it
       by Ended ends = stand_answered V K S event (Replied Ended) wrote V.starts sessions2 S.starts without_it
       by (Unsure tid) ends =
-          stand_answered V K S event (Replied (Unsure tid)) wrote V.starts sessions2 S.starts without_it
+          stand_answered V K S event (Replied (Unsure tid)) wrote V.starts sessions2 S.starts
+          (without_it ∙ sym (same_closed call other))
       by (Started tid) ends = absurd ends
       by Done ends = absurd ends
       by (Value value) ends = absurd ends
@@ -142,6 +213,7 @@ module _ (V : Values) (K : Knowledge) (S : StandFor V K) (client : ℕ) (call : 
       by (Count count) ends = absurd ends
       by (Deciding tid) ends = absurd ends
       by (Level level) ends = absurd ends
+      by (Token token) ends = absurd ends
       by (Refused refusal) ends = absurd ends
 
   pub stand_left : (reply : Reply) → DoesLeave reply → StandThen V.sessions reply
@@ -153,6 +225,8 @@ module _ (V : Values) (K : Knowledge) (S : StandFor V K) (client : ℕ) (call : 
       stand_answered V K S event (Replied (Count count)) wrote V.starts V.sessions S.starts S.sessions
   stand_left (Level level) leaves =
       stand_answered V K S event (Replied (Level level)) wrote V.starts V.sessions S.starts S.sessions
+  stand_left (Token token) leaves =
+      stand_answered V K S event (Replied (Token token)) wrote V.starts V.sessions S.starts S.sessions
   stand_left (Refused refusal) leaves =
       stand_answered V K S event (Replied (Refused refusal)) wrote V.starts V.sessions S.starts S.sessions
   stand_left (Started tid) leaves = absurd leaves

@@ -11,6 +11,7 @@ use Rattle.walter_cset.specs.Totals.{total_of}
 use Rattle.walter_history.specs.Kept.{StandsForRows}
 use Rattle.walter_history.specs.Lines.{kept_of}
 use Rattle.walter_locks.specs.Parts.{part_of, owner_of}
+use Rattle.walter_handover.specs.Homes.{AreHomesBy}
 use Rattle.walter_rows.specs.Rows.{HasDeclared}
 use Rattle.walter_rules.specs.declared.held.TheConstants.{WINDOW}
 use Rattle.walter_rules.specs.Knowledge.{fresh}
@@ -38,9 +39,9 @@ fresh_spread site sites window = record {
   durable = λ k. zeros sites k.0;
 }
 
-fresh_durable : (catalog : Catalog) (site : SiteId) (sites tolerated : ℕ)
-    → IsDurableOf catalog site (none_owned site sites tolerated) fresh
-fresh_durable catalog site sites tolerated = record {
+fresh_durable : (site : SiteId) (sites tolerated : ℕ)
+    → IsDurableOf site (none_owned site sites tolerated) fresh
+fresh_durable site sites tolerated = record {
   count = refl;
   homes = λ q tx from is. absurd cc;
   acknowledged = λ k. zeros sites k.0;
@@ -55,9 +56,9 @@ pub fresh_stands : (V : Values) → V.log ≡ [] → V.history ≡ record { floo
     → V.durable ≡ none_owned V.site V.catalog.sites V.catalog.tolerated
     → ((j : SiteId) (n : ℕ) → part_of V.locks j n ≡ Free) → ((oid : ObjId) → owner_of V.locks oid ≡ None)
     → V.slow.last ≡ 0 → ((n : ℕ) → commit_of V.slow n ≡ None) → V.sessions ≡ [] → V.epoch ≡ 0 → V.starts ≡ 0
-    → V.format ≡ First
+    → V.format ≡ First → AreHomesBy V.catalog [] V.homes
     → StandFor V fresh
-fresh_stands V log history totals spread durable parts owners last kept sessions epoch starts format = record {
+fresh_stands V log history totals spread durable parts owners last kept sessions epoch starts format homes = record {
   epoch = epoch;
   starts = starts;
   format = format;
@@ -71,11 +72,13 @@ fresh_stands V log history totals spread durable parts owners last kept sessions
     declared = All-nil (HasDeclared V.catalog);
   };
   totals = λ oid id. ap (λ t. total_of t oid id) totals;
+  homes = homes;
   spread = subst (λ S. IsSpreadOf S fresh) (sym spread) (fresh_spread V.site V.catalog.sites WINDOW);
-  durable = subst (λ H. IsDurableOf V.catalog V.site H fresh) (sym durable)
-      (fresh_durable V.catalog V.site V.catalog.sites V.catalog.tolerated);
+  durable = subst (λ H. IsDurableOf V.site H fresh) (sym durable)
+      (fresh_durable V.site V.catalog.sites V.catalog.tolerated);
   locks = record { parts = parts; owners = owners };
   slow = record { last = last; kept = kept };
+  wanted = λ n tx asked is k. absurd cc;
   sessions = sessions;
   sound = sound_fresh V.catalog V.site;
 }

@@ -2,6 +2,7 @@ mod Numbers
 mod CoveredFloors
 pub mod SoundKept
 pub mod Fresh
+pub mod PreferredTold
 pub mod PartsKept
 pub mod StandKept
 mod Opened

@@ -68,27 +68,24 @@ peer_of catalog i k within =
           let passes = parts.1 in absurd (cc),
     )
 
-module _ (catalog : Catalog) (i : SiteId) (H : Holdings) (K : Knowledge) (S : IsDurableOf catalog i H K)
+module _ (catalog : Catalog) (i : SiteId) (H : Holdings) (K : Knowledge) (S : IsDurableOf i H K)
     (counted : length (of_site i K.log) ≡ K.committed i) (site : H.site ≡ i) (many : H.sites ≡ catalog.sites)
     (tolerated : H.tolerated ≡ catalog.tolerated) where
   -- by the tables and by the rules the same sites hold an own commit
   same_holds : (q : ℕ) → holds_kept H q ≡ holds i K q
   same_holds q = λ t k. nat_eq k.0 (site t).0 || nat_le q (S.acknowledged k t)
 
-  -- those that are preferred for what it changed among them
+  -- those at which it is to be held among them
   homes_hold : (q : ℕ) (tx : Tx) → 1 ≤ q → commit_at i q K.log ≡ Some tx
-      → All (λ k. holds_kept H q k ≡ true) (preferred_of H q) ↔ IsTrue (is_at_homes catalog i K q tx)
+      → All (λ k. holds_kept H q k ≡ true) (preferred_of H q) ↔ IsTrue (is_at_homes i K q)
   homes_hold q tx some is =
-      let homes = S.homes q tx some is in
-      let test : Update → Bool = λ u. holds i K q (preferred catalog K (object_of u)) in (
-        λ all. sym (list_all-map (holds i K q) (λ u. preferred catalog K (object_of u)) tx.updates)
-            ∙ list_all-from_AllPass (holds i K q) (homes_of catalog tx.updates)
+      let homes = S.homes q tx some is in (
+        λ all. list_all-from_AllPass (holds i K q) (K.placed q)
             (subst (λ (ks : List SiteId). All (λ k. holds i K q k ≡ true) ks) homes
             (subst (λ (p : SiteId → Bool). All (λ k. p k ≡ true) (preferred_of H q)) (same_holds q) all)),
         λ all. subst (λ (p : SiteId → Bool). All (λ k. p k ≡ true) (preferred_of H q)) (sym (same_holds q))
             (subst (λ (ks : List SiteId). All (λ k. holds i K q k ≡ true) ks) (sym homes)
-            (AllPass-from_list_all (holds i K q) (homes_of catalog tx.updates)
-            (list_all-map (holds i K q) (λ u. preferred catalog K (object_of u)) tx.updates ∙ all))),
+            (AllPass-from_list_all (holds i K q) (K.placed q) all)),
       )
 
   -- an own commit is held by the tables where it is so by the rules
@@ -101,18 +98,17 @@ module _ (catalog : Catalog) (i : SiteId) (H : Holdings) (K : Knowledge) (S : Is
       (λ t. count_by (same_holds q t) (map site_at (range_with_len 0 (many t)))) in
       let enough : Bool = nat_le (catalog.tolerated + 1) (count_by (holds i K q) (sites catalog)) in (
         λ held.
-            let parts = both enough (option_map_or (is_at_homes catalog i K q) (commit_at i q K.log) true) held in
+            let parts = both enough (is_at_homes i K q) held in
             let more = leb-true (catalog.tolerated + 1) (count_by (holds i K q) (sites catalog)) parts.0 in record {
               enough = omega (arith, more, count, tolerated);
-              preferred = homes.1
-                  (subst (λ o. option_map_or (is_at_homes catalog i K q) o true ≡ true) is parts.1);
+              preferred = homes.1 parts.1;
             },
         λ held.
             let more = held.enough in
-            both_true enough (option_map_or (is_at_homes catalog i K q) (commit_at i q K.log) true)
+            both_true enough (is_at_homes i K q)
             (le-leb (catalog.tolerated + 1) (count_by (holds i K q) (sites catalog))
             (omega (arith, more, count, tolerated)))
-            (subst (λ o. option_map_or (is_at_homes catalog i K q) o true ≡ true) (sym is) (homes.0 held.preferred)),
+            (homes.0 held.preferred),
       )
 
   -- peers have called own commits visible by the tables where they have by the rules
@@ -143,9 +139,9 @@ module _ (catalog : Catalog) (i : SiteId) (H : Holdings) (K : Knowledge) (S : Is
       ∙ (λ t. max (S.visible_floor t) (passed (is_visible catalog i K) (S.count t)))
 
 -- one more own commit is counted and kept
-pub own_then : (catalog : Catalog) (i : SiteId) (H : Holdings) (K : Knowledge) → IsDurableOf catalog i H K
+pub own_then : (catalog : Catalog) (i : SiteId) (H : Holdings) (K : Knowledge) → IsDurableOf i H K
     → length (of_site i K.log) ≡ K.committed i → (seq : ℕ) (tx : Tx) → tx.tid.site ≡ i
-    → IsDurableOf catalog i (with_own (homes_of catalog tx.updates) H) (recorded catalog i (Some (Own seq tx)) K)
+    → IsDurableOf i (with_own (homes_of catalog tx.updates) H) (recorded catalog i (Some (Own seq tx)) K)
 own_then catalog i H K S counted seq tx here =
     let h : Held = record { seq = seq; tx = tx } in record {
       count = length_push H.preferred (homes_of catalog tx.updates) ∙ ap (λ (n : ℕ). n + 1) S.count
@@ -177,9 +173,9 @@ news_within : (i : SiteId) (K : Knowledge) (before number : ℕ) → is_news i K
 news_within i K before number is =
     leb-true number (K.committed i) (both (nat_le number (K.committed i)) (nat_lt before number) is).0
 
-pub acknowledged_then : (catalog : Catalog) (i : SiteId) (H : Holdings) (K : Knowledge) → IsDurableOf catalog i H K
+pub acknowledged_then : (catalog : Catalog) (i : SiteId) (H : Holdings) (K : Knowledge) → IsDurableOf i H K
     → (j : SiteId) (got : ℕ) → j.0 < length H.acknowledged → is_news i K (K.acknowledged j) got ≡ true
-    → IsDurableOf catalog i (with_acknowledged j got H) (record K { acknowledged = risen j got K.acknowledged })
+    → IsDurableOf i (with_acknowledged j got H) (record K { acknowledged = risen j got K.acknowledged })
 acknowledged_then catalog i H K S j got inside news =
     let within = news_within i K (K.acknowledged j) got news in record {
       count = S.count;
@@ -191,9 +187,9 @@ acknowledged_then catalog i H K S j got inside news =
       visible_floor = S.visible_floor;
     }
 
-pub visible_then : (catalog : Catalog) (i : SiteId) (H : Holdings) (K : Knowledge) → IsDurableOf catalog i H K
+pub visible_then : (catalog : Catalog) (i : SiteId) (H : Holdings) (K : Knowledge) → IsDurableOf i H K
     → (j : SiteId) (committed : ℕ) → j.0 < length H.visible → is_news i K (K.visible j) committed ≡ true
-    → IsDurableOf catalog i (with_visible j committed H) (record K { visible = risen j committed K.visible })
+    → IsDurableOf i (with_visible j committed H) (record K { visible = risen j committed K.visible })
 visible_then catalog i H K S j committed inside news =
     let within = news_within i K (K.visible j) committed news in record {
       count = S.count;

@@ -1,20 +1,22 @@
 -- What a client is answered by the tables of a site, and what the answer takes and leaves.
-use Rattle.std.specs.Prelude.{◌≡◌, ◌+◌, ◌<◌, ℕ, length, Option, Some, None, IsSome, IsSomeAnd, Result, Ok}
+use Rattle.std.specs.Prelude.{◌≡◌, ◌+◌, ◌<◌, ◌^◌, ℕ, List, [], ◌∷◌, length, Option, Some, None, IsSome, IsSomeAnd, Result, Ok}
 use Rattle.walter_base.specs.declared.message.BadFrame.{BadFrame}
 use Rattle.walter_base.specs.declared.message.Record.{Record}
 use Rattle.walter_base.specs.declared.message.Record.TheVariants.{SlowBegin}
 use Rattle.walter_base.specs.declared.message.Refusal.{Refusal}
 use Rattle.walter_base.specs.declared.message.Reply.{Reply}
-use Rattle.walter_base.specs.declared.message.Reply.TheVariants.{Started, Done}
+use Rattle.walter_base.specs.declared.message.Reply.TheVariants.{Started, Done, Committed}
 use Rattle.walter_base.specs.declared.message.Request.{Request}
-use Rattle.walter_base.specs.declared.message.Request.TheVariants.{Commit}
+use Rattle.walter_base.specs.declared.message.Request.TheVariants.{Commit, Handover}
 use Rattle.walter_base.specs.declared.names.Tid.{Tid}
 use Rattle.walter_base.specs.declared.update.Update.{Update}
 use Rattle.walter_rules.specs.Calls.{Expected, answers, refuses, call_rule}
 use Rattle.walter_rules.specs.Knowledge.{Knowledge, session_of as known_session}
-use Rattle.walter_rules.specs.Learning.{updated}
-use Rattle.walter_rules.specs.Sessions.{Session, with_update, with_slow}
+use Rattle.walter_rules.specs.Learning.{updates_asked, updated}
+use Rattle.walter_rules.specs.Sessions.{Session, with_slow}
 use Rattle.walter_session.specs.Sessions.{sessions_of, session_of, room_of, CanStart}
+use Rattle.walter_tables.specs.declared.leaving.Changes.{Changes}
+use Rattle.walter_tables.specs.declared.leaving.Changes.TheVariants.{Nothing, One, Two}
 use Rattle.walter_tables.specs.declared.tables.Tables.{Tables}
 use Rattle.walter_tables.specs.Open.{IsOpenAt}
 use Rattle.walter_tables.specs.Sites.{site_of, catalog_of, Stands}
@@ -23,8 +25,11 @@ use Rattle.walter_tables.specs.Sites.{site_of, catalog_of, Stands}
 abbrev pub ClientCall : Type 0
 ClientCall = Result Request BadFrame
 
+-- a request that is answered without a record, whatever comes of it
 abbrev pub IsNoCommit : Request → Type 0
-IsNoCommit request = ¬ (request ≡ Commit)
+IsNoCommit Commit = ⊥
+IsNoCommit (Handover container to) = ⊥
+IsNoCommit request = Unit {0}
 
 -- the rule answers this to the client, and asks for no record
 abbrev pub IsReplyTo : Tables → ℕ → Request → Reply → Type 0
@@ -46,7 +51,7 @@ refused_or (Some refusal) other = refuses refusal
 -- what the reply changes can be changed without memory
 abbrev pub CanAnswer : Tables → ℕ → Reply → Type 0
 CanAnswer t client (Started tid) = CanStart t.sessions
-CanAnswer t client Done = IsSome (session_of t.sessions client) → 0 < room_of t.sessions client
+CanAnswer t client Done = IsSome (session_of t.sessions client) → 1 < room_of t.sessions client
 CanAnswer t client reply = Unit {0}
 
 -- a reply that changes something that takes memory
@@ -62,22 +67,25 @@ pub record IsNextStart (t : Tables) (client : ℕ) (tid : Tid) : Type 0 where
   pub here : tid.site ≡ t.site
   pub next : tid.number ≡ t.starts + 1
 
--- the session that starts is the next one, and the one that changes may be open then
+-- the session that starts is the next one, and the one that changes may be open then; a handover that is committed has a
+-- name as a start has
 abbrev pub CanBeAnswered : Tables → ℕ → ClientCall → Reply → Type 0
 CanBeAnswered t client call (Started tid) = IsNextStart t client tid
 CanBeAnswered t client call Done =
-    IsSomeAnd (session_of t.sessions client) (λ s. IsOpenAt t.catalog t.site (updated call s))
+    IsSomeAnd (session_of t.sessions client) (λ s. IsOpenAt t.catalog t.site (updated t.catalog.friends call s))
+CanBeAnswered t client (Ok (Handover container to)) (Committed version) = t.starts + 1 < 2 ^ 64
 CanBeAnswered t client call reply = Unit {0}
 
--- the session with the update, if there is one
-abbrev pub with_any : Option Update → Session → Session
-with_any None s = s
-with_any (Some update) s = with_update update s
+-- the updates that a session gets
+abbrev pub updates_in : Changes → List Update
+updates_in Nothing = []
+updates_in (One update) = update ∷ []
+updates_in (Two first second) = first ∷ second ∷ []
 
--- the update is the one that the call asks for, where it is done
-abbrev pub IsAskedBy : ClientCall → Reply → Option Update → Type 0
-IsAskedBy call Done update = (s : Session) → updated call s ≡ with_any update s
-IsAskedBy call reply update = Unit {0}
+-- they are those that the call asks for, by the container of the friend lists, where it is done
+abbrev pub IsAskedBy : Option ℕ → ClientCall → Reply → Changes → Type 0
+IsAskedBy friends call Done changes = updates_asked friends call ≡ updates_in changes
+IsAskedBy friends call reply changes = Unit {0}
 
 -- the slow commit that a record begins
 abbrev pub begun_in : Option Record → Option ℕ

@@ -1,17 +1,19 @@
 -- What is put out to one site, by what the tables show.
 use Rattle.std.specs.Prelude.{ℕ, ◌+◌, nat_le, min, max, List, [], ◌∷◌, ◌++◌, map, filter_map, flat_map, Option, option_map, option_and_then, if◌then◌else◌}
 use Rattle.std.specs.Option.{option_map_or}
-use Rattle.walter_base.specs.declared.catalog.Catalog.{Catalog}
 use Rattle.walter_base.specs.declared.names.SiteId.{SiteId}
 use Rattle.walter_base.specs.declared.packet.Packet.{Packet}
 use Rattle.walter_base.specs.declared.packet.Packet.TheVariants.{Propagate, Ack, Dsmark, Visible, Release}
 use Rattle.walter_base.specs.declared.transaction.Tx.{Tx}
 use Rattle.walter_base.specs.Vectors.{entry_at}
-use Rattle.walter_rules.specs.Knowledge.{fresh, from_to}
+use Rattle.walter_objects.specs.Preferred.{wanted_at}
+use Rattle.walter_rules.specs.Knowledge.{from_to}
 use Rattle.walter_rules.specs.Log.{commit_at}
+use Rattle.walter_rules.specs.Objects.{objects_of}
 use Rattle.walter_rules.specs.Sending.{Send, where_site, if_some, if_risen, prepare_of}
 use Rattle.walter_slow.specs.Kept.{Kept, waits_for, owes}
 use Rattle.walter_slow.specs.Tables.{commit_of}
+use Rattle.walter_slow.specs.Wanted.{sites_at}
 use Rattle.walter_spread.specs.Propagation.{own}
 use Rattle.walter_tables.specs.Standing.{Values}
 
@@ -45,18 +47,22 @@ acknowledged_packets V from before_ack now_ack before now k =
     where_site from (commits_of V (numbers_into V before_ack now_ack)) k
     ++ if_risen before now
 
+-- the PREPARE of a slow commit to a site, where these are the sites at which its objects were preferred at its begin
+abbrev pub prepare_by : List SiteId → ℕ → Tx → SiteId → Packet
+prepare_by sites n tx k = prepare_of (λ p. wanted_at p (objects_of tx.updates) sites) n tx k
+
 -- of a slow commit that is kept: its PREPARE, where it waits for the site; and its RELEASE, where it owes it to the site
-abbrev pub prepare_kept : Catalog → SiteId → ℕ → Option Kept → List Packet
-prepare_kept catalog k n kept =
+abbrev pub prepare_kept : List SiteId → SiteId → ℕ → Option Kept → List Packet
+prepare_kept sites k n kept =
     if waits_for kept k
-    then option_map_or (λ tx. prepare_of catalog fresh n tx k ∷ []) (option_and_then (λ slow. slow.tx) kept) [] else []
+    then option_map_or (λ tx. prepare_by sites n tx k ∷ []) (option_and_then (λ slow. slow.tx) kept) [] else []
 
 abbrev pub release_kept : SiteId → ℕ → Option Kept → List Packet
 release_kept k n kept = if owes kept k then Release n ∷ [] else []
 
 -- of all of them
 abbrev pub prepares_kept : Values → SiteId → List Packet
-prepares_kept V k = flat_map (λ n. prepare_kept V.catalog k n (commit_of V.slow n)) (from_to 1 V.slow.last)
+prepares_kept V k = flat_map (λ n. prepare_kept (sites_at V.wanted n) k n (commit_of V.slow n)) (from_to 1 V.slow.last)
 
 abbrev pub releases_kept : Values → SiteId → List Packet
 releases_kept V k = flat_map (λ n. release_kept k n (commit_of V.slow n)) (from_to 1 V.slow.last)

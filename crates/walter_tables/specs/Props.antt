@@ -2,7 +2,7 @@
 use Rattle.std.specs.Prelude.{[], ◌∷◌}
 use Rattle.std.proofs.Props.{props as usual}
 use Rattle.walter_base.specs.declared.update.Update.{Update}
-use Rattle.walter_base.specs.declared.update.Update.TheVariants.{Write, Add, Del}
+use Rattle.walter_base.specs.declared.update.Update.TheVariants.{Write, Add, Del, Move}
 use Rattle.walter_base.specs.ByClient.{AreApart}
 use Rattle.walter_base.specs.Sizes.{HasShortValue}
 use Rattle.walter_rules.specs.Sessions.{Session, Sessions}
@@ -17,6 +17,7 @@ pub HasShortValue-prop : (update : Update) → IsProp (HasShortValue update)
 HasShortValue-prop (Write oid bytes) = hlevel usual
 HasShortValue-prop (Add oid id) = hlevel usual
 HasShortValue-prop (Del oid id) = hlevel usual
+HasShortValue-prop (Move container to) = hlevel usual
 
 pub AreApart-prop : (sessions : Sessions) → IsProp (AreApart sessions)
 AreApart-prop [] = hlevel usual

@@ -1,8 +1,9 @@
 -- The fields of a site as data.
-use Rattle.std.specs.Prelude.{◌↔◌, Bool, IsTrue, Some}
+use Rattle.std.specs.Prelude.{◌↔◌, Bool, IsTrue, List, Some}
 use Rattle.walter_base.specs.declared.catalog.Catalog.{Catalog}
 use Rattle.walter_base.specs.declared.message.Record.{Record}
 use Rattle.walter_base.specs.declared.names.SiteId.{SiteId}
+use Rattle.walter_base.specs.Values.{Handed}
 use Rattle.walter_session.specs.Sessions.{sessions_of}
 use Rattle.walter_rules.specs.Knowledge.{Knowledge}
 use Rattle.walter_rules.specs.Learning.{recorded}
@@ -20,10 +21,12 @@ values_of t = record {
   log = t.log.log;
   history = t.history;
   totals = t.totals;
+  homes = t.homes.last;
   spread = t.spread;
   durable = t.durable.holdings;
   locks = t.locks;
   slow = t.slow;
+  wanted = t.wanted;
   sessions = sessions_of t.sessions;
 }
 
@@ -33,6 +36,10 @@ site_of t = t.site
 
 unfoldable pub catalog_of : Tables → Catalog
 catalog_of t = t.catalog
+
+-- to which site each container was handed last
+unfoldable pub last_of : Tables → List Handed
+last_of t = t.homes.last
 
 -- the tables stand for what the site knows
 abbrev pub Stands : Tables → Knowledge → Type 0

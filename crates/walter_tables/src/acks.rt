@@ -25,7 +25,7 @@ fn marks(alloc: Global, rose: bool, durable: u64, visible: u64) -> Mem<MaybeReco
     }
 }
 
-#[tactic(auto, unfolding(crate::specs::Sites::values_of, crate::specs::Sites::site_of, crate::specs::Sites::catalog_of))]
+#[tactic(auto, unfolding(crate::specs::Sites::values_of, crate::specs::Sites::site_of, crate::specs::Sites::catalog_of, crate::specs::Sites::last_of))]
 impl Tables {
     /// Whether a number of own commits is news, where the peer said `before` last.
     fn is_news(&self, before: u64, number: u64) -> bool

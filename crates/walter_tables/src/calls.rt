@@ -1,4 +1,4 @@
-//! What a client is answered to all but a Commit.
+//! What a client is answered to all but a Commit and a Handover.
 ghost use Rattle.std.specs.Prelude.{◌≡◌, ℕ, Ok, IfOk, OnErr};
 ghost use Rattle.walter_base.specs.declared.message.Request.{Request as Asked};
 ghost use Rattle.walter_base.specs.Sizes.{IsShortReply};
@@ -11,9 +11,9 @@ ghost use Rattle.walter_tables.specs.Sites.{values_of, site_of, catalog_of, Stan
 use crate::tables::Tables;
 use walter_base::{Level, Mem, Refusal, Reply, Request, Tid};
 
-#[tactic(auto, unfolding(crate::specs::Sites::values_of, crate::specs::Sites::site_of, crate::specs::Sites::catalog_of))]
+#[tactic(auto, unfolding(crate::specs::Sites::values_of, crate::specs::Sites::site_of, crate::specs::Sites::catalog_of, crate::specs::Sites::last_of))]
 impl Tables {
-    /// What a client is answered to all but a Commit. A SetReadId, an Abort and a Level take no memory.
+    /// What a client is answered to all but a Commit and a Handover. A SetReadId, an Abort and a Level take no memory.
     pub fn reply_to(&self, client: u32, request: &Request) -> Mem<Reply>
         requires { IsNoCommit request.now }
         ensures rule { IfOk result (IsReplyTo self.now client request.now) }
@@ -30,9 +30,14 @@ impl Tables {
             }
             Request::SetRead(oid) => self.counts_reply(client, *oid),
             Request::SetReadId(oid, id) => Ok(self.count_reply(client, *oid, *id)),
-            Request::Commit => unreachable!(),
+            Request::Commit | Request::Handover(_, _) => unreachable!(),
             Request::Abort => Ok(self.abort_reply(client)),
             Request::Level(tid) => Ok(self.level_reply(*tid)),
+            Request::StartAt(token) => self.start_at_reply(client, token),
+            Request::Token => self.token_reply(client),
+            Request::Befriend(a, b) | Request::Unfriend(a, b) => {
+                Ok(self.befriend_reply(client, *a, *b))
+            }
         }
     }
 

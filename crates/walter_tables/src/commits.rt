@@ -12,7 +12,7 @@ ghost use Rattle.walter_tables.specs.Answering.{rule_by};
 ghost use Rattle.walter_tables.specs.Keeping.{GoesOn, AreUnlocked, objects_here};
 ghost use Rattle.walter_tables.specs.Open.{IsOpenAt};
 ghost use Rattle.walter_tables.specs.Planning.{expected_of, IsUp};
-ghost use Rattle.walter_tables.specs.Sites.{values_of, site_of, catalog_of, Stands};
+ghost use Rattle.walter_tables.specs.Sites.{values_of, site_of, catalog_of, last_of, Stands};
 
 use crate::plan::Planned;
 use crate::tables::Tables;
@@ -21,7 +21,7 @@ use walter_base::{
     Cause, Conflict, MaybeRecord, Mem, NoMemory, Objects, Record, Refusal, Reply, Snapshot, Tx,
     Updates, Version,
 };
-use walter_objects::{are_local, objects_at, objects_of, participants};
+use walter_objects::{are_local, objects_at, objects_of, participants, sites_of};
 use walter_rules::Outcome;
 use walter_session::Session;
 
@@ -32,6 +32,7 @@ fn cause_of(conflict: Conflict) -> Cause
     match conflict {
         Conflict::Modified { oid, version } => Cause::Modified { oid, version },
         Conflict::Locked { oid, owner } => Cause::Locked { oid, owner },
+        Conflict::Moving { oid } => Cause::Moving { oid },
         Conflict::Dead => Cause::Asked,
     }
 }
@@ -48,7 +49,7 @@ fn transaction_of(alloc: Global, session: &Session, slow: u64) -> Mem<Tx>
     })
 }
 
-#[tactic(auto, unfolding(crate::specs::Sites::values_of, crate::specs::Sites::site_of, crate::specs::Sites::catalog_of))]
+#[tactic(auto, unfolding(crate::specs::Sites::values_of, crate::specs::Sites::site_of, crate::specs::Sites::catalog_of, crate::specs::Sites::last_of))]
 impl Tables {
     /// An answer without a record, and with nothing put out.
     pub fn answers(&self, reply: Reply) -> Planned
@@ -134,11 +135,17 @@ impl Tables {
         ensures on { IfOk result (λ p. IfSome p.rec (GoesOn self.now)) }
     {
         let written = objects_of(self.alloc, &session.updates)?;
-        let here = objects_at(self.alloc, &self.catalog, self.site, written.as_slice())?;
+        let here = objects_at(
+            self.alloc,
+            &self.catalog,
+            &self.homes,
+            self.site,
+            written.as_slice(),
+        )?;
         if let Some(conflict) = self.conflict(&session.snapshot, &here) {
             return Ok(self.answers(Reply::Aborted(cause_of(conflict))));
         }
-        if are_local(&self.catalog, self.site, written.as_slice()) {
+        if are_local(&self.catalog, &self.homes, self.site, written.as_slice()) {
             self.plan_fast(session)
         } else {
             self.plan_slow(session, &written)
@@ -166,7 +173,7 @@ impl Tables {
     /// A slow commit begins, and the other sites at which what it writes is preferred are asked.
     fn plan_slow(&self, session: &Session, written: &Objects) -> Mem<Planned>
         requires written { written.now ≡ objects_of session.now.updates.items }
-        requires clear { AreUnlocked self.now (objects_here (catalog_of self.now) (site_of self.now) session.now.updates.items) }
+        requires clear { AreUnlocked self.now (objects_here (catalog_of self.now) (last_of self.now) (site_of self.now) session.now.updates.items) }
         ensures rule { IfOk result (λ p. (K : Knowledge) → Stands self.now K → expected_of p
             ≡ begins_slow (catalog_of self.now) (site_of self.now) K (session_view session.now)) }
         ensures on { IfOk result (λ p. IfSome p.rec (GoesOn self.now)) }
@@ -174,8 +181,15 @@ impl Tables {
         // No memory reaches so far that a slow commit has no number.
         let slow = self.slow.last().checked_add(1).ok_or(NoMemory)?;
         let tx = transaction_of(self.alloc, session, slow)?;
-        let asked = participants(self.alloc, &self.catalog, self.site, written.as_slice())?;
-        let sends = self.prepares(slow, &tx, &asked)?;
+        let asked = participants(
+            self.alloc,
+            &self.catalog,
+            &self.homes,
+            self.site,
+            written.as_slice(),
+        )?;
+        let sites = sites_of(self.alloc, &self.catalog, &self.homes, written.as_slice())?;
+        let sends = self.prepares(slow, &tx, &asked, &sites)?;
         Ok(Planned {
             rec: MaybeRecord::some(self.alloc, Record::SlowBegin(slow, tx))?,
             outcome: Outcome::Replied(Reply::Deciding(session.tid)),

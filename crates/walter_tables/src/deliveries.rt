@@ -2,21 +2,22 @@
 ghost use Rattle.std.specs.Prelude.{◌≡◌, ◌+◌, ◌≤◌, [], Some, None, IfOk, IfSome, IsTrue, if◌then◌else◌};
 ghost use Rattle.walter_base.specs.declared.packet.Packet.{Packet as Said};
 ghost use Rattle.walter_base.specs.Vectors.{entry_at};
-ghost use Rattle.walter_locks.specs.Parts.{part_of};
-ghost use Rattle.walter_rules.specs.Conflicts.{first_conflict};
+ghost use Rattle.walter_locks.specs.Parts.{part_of, owner_of};
+ghost use Rattle.walter_rules.specs.Conflicts.{conflict_there, first_there};
 ghost use Rattle.walter_rules.specs.Deliveries.{passes, takes, back, is_peer, is_enabled, if_greater, packet_rule, advance_rule, can_advance, IsLeastEnabled, covers, is_unseen, answer_over, prepares};
 ghost use Rattle.walter_rules.specs.Knowledge.{Knowledge};
 ghost use Rattle.walter_rules.specs.Slow.{Free};
-ghost use Rattle.walter_tables.specs.Keeping.{GoesOn};
+ghost use Rattle.walter_tables.specs.Keeping.{GoesOn, AreUnlocked};
 ghost use Rattle.walter_tables.specs.Planning.{expected_of};
 ghost use Rattle.walter_tables.specs.Sites.{values_of, site_of, catalog_of, Stands};
 
 use crate::plan::Planned;
 use crate::tables::Tables;
 use walter_base::{
-    Answer, Conflict, MaybeRecord, Mem, Objects, Packet, Record, Sends, SiteId, Tid, Tx, Vts,
+    Answer, Conflict, MaybeRecord, Mem, ObjId, Objects, Packet, Record, Sends, SiteId, Tid, Tx, Vts,
 };
-use walter_objects::{are_lockable, is_peer};
+use walter_decide::check;
+use walter_objects::{are_regular, home, is_peer};
 use walter_rules::Outcome;
 
 /// Nothing changes, and this is put out.
@@ -43,7 +44,7 @@ pub fn takes(rec: MaybeRecord, sends: Sends) -> Planned
     }
 }
 
-#[tactic(auto, unfolding(crate::specs::Sites::values_of, crate::specs::Sites::site_of, crate::specs::Sites::catalog_of))]
+#[tactic(auto, unfolding(crate::specs::Sites::values_of, crate::specs::Sites::site_of, crate::specs::Sites::catalog_of, crate::specs::Sites::last_of))]
 impl Tables {
     /// To the site that the packet came from.
     fn back(&self, to: SiteId, packet: Packet) -> Mem<Sends>
@@ -219,8 +220,37 @@ impl Tables {
                     Answer::Later
                 }
             }
-            Conflict::Modified { oid: _, version: _ } | Conflict::Dead => Answer::No(conflict),
+            Conflict::Modified { oid: _, version: _ }
+            | Conflict::Moving { oid: _ }
+            | Conflict::Dead => Answer::No(conflict),
         }
+    }
+
+    /// What stands in the way of a lock of the object for another site: that it isn't preferred here, or else a conflict.
+    fn conflict_there(&self, start: &Vts, oid: ObjId) -> Option<Conflict>
+        ensures rule { (K : Knowledge) → Stands self.now K
+            → result ≡ conflict_there (catalog_of self.now) (site_of self.now) K start.now oid }
+        ensures clear { result ≡ None → owner_of self.now.locks oid ≡ None }
+    {
+        if home(&self.catalog, &self.homes, oid) == self.site {
+            check(oid, start, self).err()
+        } else {
+            Some(Conflict::Moving { oid })
+        }
+    }
+
+    /// What stands first in the way of locks of the objects for another site.
+    fn first_there(&self, start: &Vts, objects: &[ObjId]) -> Option<Conflict>
+        ensures rule { (K : Knowledge) → Stands self.now K
+            → result ≡ first_there (catalog_of self.now) (site_of self.now) K start.now objects.now }
+        ensures clear { result ≡ None → AreUnlocked self.now objects.now }
+    {
+        for oid in objects {
+            if let Some(conflict) = self.conflict_there(start, *oid) {
+                return Some(conflict);
+            }
+        }
+        None
     }
 
     /// The objects are locked where none of them meets a conflict.
@@ -235,10 +265,11 @@ impl Tables {
         requires peer { IsTrue (is_peer (catalog_of self.now) (site_of self.now) from) }
         requires free { part_of self.now.locks from slow ≡ Free }
         ensures rule { IfOk result (λ p. (K : Knowledge) → Stands self.now K
-            → expected_of p ≡ prepares K from slow tid start.now objects.now (first_conflict K start.now objects.now)) }
+            → expected_of p ≡ prepares K from slow tid start.now objects.now
+            (first_there (catalog_of self.now) (site_of self.now) K start.now objects.now)) }
         ensures on { IfOk result (λ p. IfSome p.rec (GoesOn self.now)) }
     {
-        if let Some(conflict) = self.conflict(start, objects) {
+        if let Some(conflict) = self.first_there(start, objects.as_slice()) {
             let answer = self.answer_over(start, conflict);
             return Ok(passes(self.back(from, Packet::Vote(slow, answer))?));
         }
@@ -248,8 +279,7 @@ impl Tables {
         Ok(takes(rec, sends))
     }
 
-    /// What comes of a PREPARE. Where one of its objects can't be locked here, nothing does; a slow commit
-    /// that is over is told NO, and one that has its lock YES once more.
+    /// What comes of a PREPARE. Where one of its objects isn't regular, nothing does; a slow commit that is over is told NO, and one that has its lock YES once more.
     pub fn plan_prepare(
         &self,
         from: SiteId,
@@ -264,7 +294,7 @@ impl Tables {
             (Said.Prepare slow tid start.now objects.now)) }
         ensures on { IfOk result (λ p. IfSome p.rec (GoesOn self.now)) }
     {
-        if !are_lockable(&self.catalog, self.site, objects.as_slice()) {
+        if !are_regular(&self.catalog, objects.as_slice()) {
             return Ok(passes(self.nothing()));
         }
         if self.locks.dead(from, slow) {

@@ -10,19 +10,19 @@ ghost use Rattle.walter_rules.specs.Knowledge.{Knowledge};
 ghost use Rattle.walter_rules.specs.Log.{commit_at};
 ghost use Rattle.walter_rules.specs.Records.{IsOfSlow};
 ghost use Rattle.walter_tables.specs.Keeping.{GoesOn, AreUnlocked, IsMadeFor, objects_here};
-ghost use Rattle.walter_tables.specs.Sites.{values_of, site_of, catalog_of, Stands, Fits};
+ghost use Rattle.walter_tables.specs.Sites.{values_of, site_of, catalog_of, last_of, Stands, Fits};
 
 use crate::made::Made;
 use crate::same::is_same;
 use crate::tables::Tables;
 use walter_base::{ObjId, Record, SiteId, Tx, Vts};
-use walter_objects::{are_declared, are_lockable, is_peer};
+use walter_objects::{are_declared, are_local, are_regular, is_peer};
 
-#[tactic(auto, unfolding(crate::specs::Sites::values_of, crate::specs::Sites::site_of, crate::specs::Sites::catalog_of))]
+#[tactic(auto, unfolding(crate::specs::Sites::values_of, crate::specs::Sites::site_of, crate::specs::Sites::catalog_of, crate::specs::Sites::last_of))]
 impl Tables {
     /// Whether the record can follow those that made the tables.
     pub(crate) fn fits(&self, rec: &Record, made: &Made) -> bool
-        requires made { IsMadeFor (catalog_of self.now) (site_of self.now) rec.now made.now }
+        requires made { IsMadeFor (catalog_of self.now) (last_of self.now) (site_of self.now) rec.now made.now }
         ensures fits { Fits self.now rec.now result }
         ensures on { IsTrue result → GoesOn self.now rec.now }
     {
@@ -156,7 +156,8 @@ impl Tables {
         self.epoch > 0
             && is_peer(&self.catalog, self.site, from)
             && self.locks.is_free(from, slow)
-            && are_lockable(&self.catalog, self.site, objects)
+            && are_regular(&self.catalog, objects)
+            && are_local(&self.catalog, &self.homes, self.site, objects)
             && self.are_unlocked(objects)
     }
 
@@ -186,7 +187,7 @@ impl Tables {
     }
 
     fn fits_begun(&self, slow: u64, tx: &Tx, objects: &[ObjId]) -> bool
-        requires { objects.now ≡ objects_here (catalog_of self.now) (site_of self.now) tx.now.updates }
+        requires { objects.now ≡ objects_here (catalog_of self.now) (last_of self.now) (site_of self.now) tx.now.updates }
         ensures fits { Fits self.now (Written.SlowBegin slow tx.now) result }
         ensures on { IsTrue result → GoesOn self.now (Written.SlowBegin slow tx.now) }
     {

@@ -8,7 +8,7 @@ ghost use Rattle.walter_tables.specs.Sites.{values_of, site_of, catalog_of, Stan
 use crate::tables::Tables;
 use walter_rows::fold;
 
-#[tactic(auto, unfolding(crate::specs::Sites::values_of, crate::specs::Sites::site_of, crate::specs::Sites::catalog_of))]
+#[tactic(auto, unfolding(crate::specs::Sites::values_of, crate::specs::Sites::site_of, crate::specs::Sites::catalog_of, crate::specs::Sites::last_of))]
 impl Tables {
     /// Folds all rows at the floor: what is committed here, as far as each session has it in its snapshot. It takes no
     /// memory, and nothing that is read changes.

@@ -12,7 +12,7 @@ ghost use Rattle.walter_tables.specs.Sites.{values_of, site_of, catalog_of, Stan
 use crate::tables::Tables;
 use walter_base::{Answer, Packet, SiteId};
 
-#[tactic(auto, unfolding(crate::specs::Sites::values_of, crate::specs::Sites::site_of, crate::specs::Sites::catalog_of))]
+#[tactic(auto, unfolding(crate::specs::Sites::values_of, crate::specs::Sites::site_of, crate::specs::Sites::catalog_of, crate::specs::Sites::last_of))]
 impl Tables {
     /// Takes in what a peer said, which is news. It takes no memory.
     pub fn hear(&mut self, from: SiteId, packet: &Packet)

@@ -4,9 +4,9 @@ ghost use Rattle.walter_base.specs.declared.message.Record.{Record as Written};
 ghost use Rattle.walter_rules.specs.Learning.{slow_number};
 ghost use Rattle.walter_rules.specs.Log.{commit_at};
 ghost use Rattle.walter_tables.specs.Keeping.{IsMadeFor, HasRoomFor, GoesOn};
-ghost use Rattle.walter_tables.specs.Sites.{values_of, site_of, catalog_of, Follows};
+ghost use Rattle.walter_tables.specs.Sites.{values_of, site_of, catalog_of, last_of, Follows};
 
-use crate::counting::count_seen;
+use crate::counting::{count_seen, hand_seen};
 use crate::made::Made;
 use crate::over::{commit_decided, end_undecided, release_over};
 use crate::tables::Tables;
@@ -14,13 +14,13 @@ use walter_base::{Objects, Record, SiteId, Tid, Tx};
 use walter_rows::{append_all, count_commit};
 use walter_rules::Held;
 
-#[tactic(auto, unfolding(crate::specs::Sites::values_of, crate::specs::Sites::site_of, crate::specs::Sites::catalog_of))]
+#[tactic(auto, unfolding(crate::specs::Sites::values_of, crate::specs::Sites::site_of, crate::specs::Sites::catalog_of, crate::specs::Sites::last_of))]
 impl Tables {
     /// Keeps what a record tells. It takes no memory.
     pub fn keep(&mut self, rec: Record, made: Made)
         requires on { GoesOn self.old rec }
         requires room { HasRoomFor self.old rec }
-        requires made { IsMadeFor (catalog_of self.old) (site_of self.old) rec made }
+        requires made { IsMadeFor (catalog_of self.old) (last_of self.old) (site_of self.old) rec made }
         ensures stands { Follows self.old rec self.new }
         ensures sessions { self.new.sessions ≡ self.old.sessions }
         ensures site { site_of self.new ≡ site_of self.old }
@@ -51,12 +51,13 @@ impl Tables {
         self.epoch = epoch;
         self.locks.unlock_all(self.site);
         self.slow.boot();
+        self.wanted.end_all();
     }
 
     fn keep_own(&mut self, seq: u64, tx: Tx, made: Made)
         requires on { GoesOn self.old (Written.Own seq tx) }
         requires room { HasRoomFor self.old (Written.Own seq tx) }
-        requires made { IsMadeFor (catalog_of self.old) (site_of self.old) (Written.Own seq tx) made }
+        requires made { IsMadeFor (catalog_of self.old) (last_of self.old) (site_of self.old) (Written.Own seq tx) made }
         ensures stands { Follows self.old (Written.Own seq tx) self.new }
         ensures sessions { self.new.sessions ≡ self.old.sessions }
         ensures site { site_of self.new ≡ site_of self.old }
@@ -65,18 +66,20 @@ impl Tables {
         let slow = tx.slow;
         count_commit(&mut self.totals, tx.updates.as_slice());
         self.placed = None;
+        self.homes.keep(tx.updates.as_slice());
         self.log.append(Held { seq, tx });
         append_all(&mut self.history, made.rows);
         self.spread.commit_own();
         self.durable.commit_own(made.preferred);
         commit_decided(&mut self.slow, slow);
+        self.wanted.end(slow);
         self.locks.unlock(self.site, slow);
     }
 
     fn keep_got(&mut self, from: SiteId, seq: u64, tx: Tx, made: Made)
         requires on { GoesOn self.old (Written.Got from seq tx) }
         requires room { HasRoomFor self.old (Written.Got from seq tx) }
-        requires made { IsMadeFor (catalog_of self.old) (site_of self.old) (Written.Got from seq tx) made }
+        requires made { IsMadeFor (catalog_of self.old) (last_of self.old) (site_of self.old) (Written.Got from seq tx) made }
         ensures stands { Follows self.old (Written.Got from seq tx) self.new }
         ensures sessions { self.new.sessions ≡ self.old.sessions }
         ensures site { site_of self.new ≡ site_of self.old }
@@ -98,6 +101,7 @@ impl Tables {
         let slow = self.slow_number_at(from, seq);
         count_seen(&mut self.totals, &self.log, from, seq);
         self.placed = None;
+        hand_seen(&mut self.homes, &self.log, from, seq);
         self.spread.commit(from);
         release_over(&mut self.locks, from, slow);
     }
@@ -147,7 +151,7 @@ impl Tables {
     fn keep_begun(&mut self, slow: u64, tx: Tx, made: Made)
         requires on { GoesOn self.old (Written.SlowBegin slow tx) }
         requires room { HasRoomFor self.old (Written.SlowBegin slow tx) }
-        requires made { IsMadeFor (catalog_of self.old) (site_of self.old) (Written.SlowBegin slow tx) made }
+        requires made { IsMadeFor (catalog_of self.old) (last_of self.old) (site_of self.old) (Written.SlowBegin slow tx) made }
         ensures stands { Follows self.old (Written.SlowBegin slow tx) self.new }
         ensures sessions { self.new.sessions ≡ self.old.sessions }
         ensures site { site_of self.new ≡ site_of self.old }
@@ -155,6 +159,7 @@ impl Tables {
     {
         self.locks.lock(self.site, slow, tx.tid, made.objects);
         self.slow.begin(slow, tx, made.asked);
+        self.wanted.begin(slow, made.sites);
     }
 
     fn keep_ended(&mut self, slow: u64)
@@ -164,6 +169,7 @@ impl Tables {
         ensures catalog { catalog_of self.new ≡ catalog_of self.old }
     {
         end_undecided(&mut self.slow, slow);
+        self.wanted.end(slow);
         self.locks.unlock(self.site, slow);
     }
 }

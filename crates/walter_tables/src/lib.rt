@@ -9,6 +9,7 @@ mod counting;
 mod deliveries;
 mod fits;
 mod folding;
+mod handing;
 mod hear;
 mod keep;
 mod leaving;
@@ -28,7 +29,7 @@ mod tables;
 mod upgrading;
 mod versions;
 
-pub use leaving::update_of;
+pub use leaving::Changes;
 pub use made::Made;
 pub use plan::Planned;
 pub use replay::ReplayFault;

@@ -2,11 +2,12 @@
 ghost use Rattle.std.specs.Prelude.{◌≡◌, ◌<◌, ◌≤◌, IfOk, OnOk, length};
 ghost use Rattle.walter_cset.specs.Totals.{HavePlaces};
 ghost use Rattle.walter_base.specs.declared.message.Record.{Record as Written};
+ghost use Rattle.walter_handover.specs.Homes.{CanKeep};
 ghost use Rattle.walter_log.specs.Logged.{room_of};
 ghost use Rattle.walter_rows.specs.Rows.{HaveRoom};
 ghost use Rattle.walter_rules.specs.Knowledge.{Knowledge};
 ghost use Rattle.walter_tables.specs.Keeping.{IsMadeFor, HasRoomFor, GoesOn, IsKnownSite, updates_at, preferred_for, asked_for, objects_for, objects_here, asked_of};
-ghost use Rattle.walter_tables.specs.Sites.{values_of, site_of, catalog_of, Stands};
+ghost use Rattle.walter_tables.specs.Sites.{values_of, site_of, catalog_of, last_of, Stands};
 
 use crate::made::Made;
 use crate::tables::Tables;
@@ -14,36 +15,39 @@ use std::alloc::Global;
 use walter_base::{Mem, Objects, Record, SiteId, Sites, Tx, Updates};
 use walter_cset::{close_all, open_all};
 use walter_durable::PreferredSites;
-use walter_objects::{objects_at, objects_of, participants};
+use walter_objects::{objects_at, objects_of, participants, sites_of};
 use walter_rows::{make_room, rows_told};
 
-#[tactic(auto, unfolding(crate::specs::Sites::values_of, crate::specs::Sites::site_of, crate::specs::Sites::catalog_of))]
+#[tactic(auto, unfolding(crate::specs::Sites::values_of, crate::specs::Sites::site_of, crate::specs::Sites::catalog_of, crate::specs::Sites::last_of))]
 impl Tables {
     /// What goes with the record.
     pub fn make(&self, rec: &Record) -> Mem<Made>
-        ensures { IfOk result (IsMadeFor (catalog_of self.now) (site_of self.now) rec.now) }
+        ensures { IfOk result (IsMadeFor (catalog_of self.now) (last_of self.now) (site_of self.now) rec.now) }
     {
         let alloc = self.alloc;
         let rows = rows_told(alloc, rec)?;
         match rec {
             Record::Own(_, tx) => {
-                let preferred = self.homes(tx.updates.as_slice());
+                let preferred = self.places(tx.updates.as_slice());
                 Ok(Made {
                     rows,
                     preferred,
                     asked: Sites::from(Vec::new(alloc)),
                     objects: Objects::from(Vec::new(alloc)),
+                    sites: Sites::from(Vec::new(alloc)),
                 })
             }
             Record::SlowBegin(_, tx) => {
                 let written = objects_of(alloc, tx.updates.as_slice())?;
-                let asked = participants(alloc, &self.catalog, self.site, written.as_slice())?;
-                let objects = objects_at(alloc, &self.catalog, self.site, written.as_slice())?;
+                let asked = participants(alloc, &self.catalog, &self.homes, self.site, written.as_slice())?;
+                let objects = objects_at(alloc, &self.catalog, &self.homes, self.site, written.as_slice())?;
+                let sites = sites_of(alloc, &self.catalog, &self.homes, written.as_slice())?;
                 Ok(Made {
                     rows,
                     preferred: PreferredSites::none(),
                     asked,
                     objects,
+                    sites,
                 })
             }
             _ => Ok(Made {
@@ -51,6 +55,7 @@ impl Tables {
                 preferred: PreferredSites::none(),
                 asked: Sites::from(Vec::new(alloc)),
                 objects: Objects::from(Vec::new(alloc)),
+                sites: Sites::from(Vec::new(alloc)),
             }),
         }
     }
@@ -58,8 +63,9 @@ impl Tables {
     /// Makes room for what the record brings, which is of a site of the catalog.
     pub fn reserve(&mut self, rec: &Record, made: &Made) -> Mem<()>
         requires site { IsKnownSite (catalog_of self.old) rec.now }
-        requires made { IsMadeFor (catalog_of self.old) (site_of self.old) rec.now made.now }
+        requires made { IsMadeFor (catalog_of self.old) (last_of self.old) (site_of self.old) rec.now made.now }
         ensures room { OnOk result (HasRoomFor self.new rec.now) }
+        ensures last { last_of self.new ≡ last_of self.old }
         ensures on { GoesOn self.old rec.now → GoesOn self.new rec.now }
         ensures stands { (K : Knowledge) → Stands self.old K → Stands self.new K }
         ensures sessions { self.new.sessions ≡ self.old.sessions }
@@ -69,6 +75,7 @@ impl Tables {
         match rec {
             Record::Own(_, tx) => {
                 self.durable.reserve()?;
+                self.homes.reserve(tx.updates.as_slice())?;
                 self.reserve_held(self.site, tx)?;
                 self.place(tx.updates.clone()?)
             }
@@ -86,6 +93,7 @@ impl Tables {
                 let asked = made.asked.as_slice().len() as u64;
                 let count = made.objects.as_slice().len() as u64;
                 self.slow.reserve(asked)?;
+                self.wanted.reserve()?;
                 self.locks.reserve(count)
             }
             Record::Boot(_) | Record::SlowEnd(_) | Record::Marks(_, _) | Record::Format => Ok(()),
@@ -98,10 +106,12 @@ impl Tables {
         ensures log { OnOk result (0 < room_of self.new.log site) }
         ensures rows { OnOk result (HaveRoom self.new.history tx.now.updates) }
         ensures stands { (K : Knowledge) → Stands self.old K → Stands self.new K }
+        ensures homes { self.new.homes ≡ self.old.homes }
         ensures spread { self.new.spread ≡ self.old.spread }
         ensures durable { self.new.durable ≡ self.old.durable }
         ensures locks { self.new.locks ≡ self.old.locks }
         ensures slow { self.new.slow ≡ self.old.slow }
+        ensures wanted { self.new.wanted ≡ self.old.wanted }
         ensures sessions { self.new.sessions ≡ self.old.sessions }
         ensures site { site_of self.new ≡ site_of self.old }
         ensures catalog { catalog_of self.new ≡ catalog_of self.old }
@@ -110,9 +120,12 @@ impl Tables {
         make_room(&mut self.history, tx.updates.as_slice())
     }
 
-    /// Gives the ids that the commit of this number of a site names places in the counts.
+    /// Gives the ids that the commit of this number of a site names places in the counts, and makes room for what it hands
+    /// over.
     fn place_seen(&mut self, from: SiteId, seq: u64) -> Mem<()>
         ensures places { OnOk result (HavePlaces self.new.totals (updates_at from seq self.old.log.log)) }
+        ensures homes { OnOk result (CanKeep self.new.homes (updates_at from seq self.old.log.log)) }
+        ensures last { last_of self.new ≡ last_of self.old }
         ensures stands { (K : Knowledge) → Stands self.old K → Stands self.new K }
         ensures log { self.new.log ≡ self.old.log }
         ensures spread { self.new.spread ≡ self.old.spread }
@@ -124,6 +137,7 @@ impl Tables {
         let Some(tx) = self.log.commit_at(from, seq) else {
             return open_all(&mut self.totals, &[]);
         };
+        self.homes.reserve(tx.updates.as_slice())?;
         let updates = tx.updates.clone()?;
         self.place(updates)
     }
@@ -134,10 +148,12 @@ impl Tables {
         ensures stands { (K : Knowledge) → Stands self.old K → Stands self.new K }
         ensures log { self.new.log ≡ self.old.log }
         ensures history { self.new.history ≡ self.old.history }
+        ensures homes { self.new.homes ≡ self.old.homes }
         ensures spread { self.new.spread ≡ self.old.spread }
         ensures durable { self.new.durable ≡ self.old.durable }
         ensures locks { self.new.locks ≡ self.old.locks }
         ensures slow { self.new.slow ≡ self.old.slow }
+        ensures wanted { self.new.wanted ≡ self.old.wanted }
         ensures sessions { self.new.sessions ≡ self.old.sessions }
         ensures site { site_of self.new ≡ site_of self.old }
         ensures catalog { catalog_of self.new ≡ catalog_of self.old }

@@ -24,7 +24,7 @@ use walter_base::{Answer, MaybeRecord, Mem, NoMemory, Record, SiteId, Tx};
 use walter_rules::Outcome;
 use walter_slow::Verdict;
 
-#[tactic(auto, unfolding(crate::specs::Sites::values_of, crate::specs::Sites::site_of, crate::specs::Sites::catalog_of))]
+#[tactic(auto, unfolding(crate::specs::Sites::values_of, crate::specs::Sites::site_of, crate::specs::Sites::catalog_of, crate::specs::Sites::last_of))]
 impl Tables {
     /// The number of the next own commit.
     pub(crate) fn next_seq(&self) -> Mem<u64>
@@ -43,7 +43,7 @@ impl Tables {
             → expected_of p ≡ commits_own (catalog_of self.now) (site_of self.now) K seq tx outcome) }
         ensures on { IfOk result (λ p. IfSome p.rec (GoesOn self.now)) }
     {
-        let homes = self.homes(tx.updates.as_slice());
+        let homes = self.places(tx.updates.as_slice());
         let before = self.durable_mark();
         let now = self.durable_mark_with_own(&homes);
         let sends = self.own_sends(seq, &tx, before, now)?;

@@ -1,16 +1,17 @@
 //! Puts the packets for one site behind those that go out.
 ghost use Rattle.std.specs.Prelude.{◌≡◌, ◌<◌, ◌≤◌, ◌++◌, ◌∷◌, [], OnOk};
 ghost use Rattle.walter_rules.specs.Deliveries.{releases_to};
-ghost use Rattle.walter_rules.specs.Knowledge.{fresh, from_to};
-ghost use Rattle.walter_rules.specs.Sending.{if_some, if_risen, prepare_of};
+ghost use Rattle.walter_rules.specs.Knowledge.{from_to};
+ghost use Rattle.walter_rules.specs.Sending.{if_some, if_risen};
 ghost use Rattle.walter_rules.specs.Slow.{has_site};
 ghost use Rattle.walter_slow.specs.Tables.{commit_of};
-ghost use Rattle.walter_tables.specs.Packets.{to_one, commits_of, numbers_in, numbers_into, own_packets, acknowledged_packets, prepare_kept, release_kept, prepares_kept, releases_kept, said_packets};
-ghost use Rattle.walter_tables.specs.Sites.{values_of, catalog_of};
+ghost use Rattle.walter_slow.specs.Wanted.{sites_at};
+ghost use Rattle.walter_tables.specs.Packets.{to_one, commits_of, numbers_in, numbers_into, own_packets, acknowledged_packets, prepare_by, prepare_kept, release_kept, prepares_kept, releases_kept, said_packets};
+ghost use Rattle.walter_tables.specs.Sites.{values_of};
 
 use crate::tables::Tables;
 use walter_base::{Mem, Packet, SiteId, Sites, Tx};
-use walter_objects::{objects_at, objects_of};
+use walter_objects::{objects_of, wanted_at};
 
 /// Puts a packet to the site behind what goes out, where its number is above 0.
 fn put_some(sends: &mut Vec<(SiteId, Packet)>, to: SiteId, number: u64, packet: Packet) -> Mem<()>
@@ -54,7 +55,7 @@ pub fn put_release(
     Ok(())
 }
 
-#[tactic(auto, unfolding(crate::specs::Sites::values_of, crate::specs::Sites::catalog_of))]
+#[tactic(auto, unfolding(crate::specs::Sites::values_of))]
 impl Tables {
     /// Puts the own commit of this number.
     fn put_commit(&self, sends: &mut Vec<(SiteId, Packet)>, to: SiteId, seq: u64) -> Mem<()>
@@ -133,19 +134,20 @@ impl Tables {
         put_risen(sends, to, before, now)
     }
 
-    /// Puts the PREPARE of a slow commit.
+    /// Puts the PREPARE of a slow commit, whose objects were preferred at these sites when it began.
     pub(crate) fn put_prepare(
         &self,
         sends: &mut Vec<(SiteId, Packet)>,
         to: SiteId,
         slow: u64,
         tx: &Tx,
+        sites: &[SiteId],
     ) -> Mem<()>
         ensures { OnOk result (sends.new.items
-            ≡ sends.old.items ++ to_one to (prepare_of (catalog_of self.now) fresh slow tx.now to ∷ [])) }
+            ≡ sends.old.items ++ to_one to (prepare_by sites.now slow tx.now to ∷ [])) }
     {
         let written = objects_of(self.alloc, tx.updates.as_slice())?;
-        let objects = objects_at(self.alloc, &self.catalog, to, written.as_slice())?;
+        let objects = wanted_at(self.alloc, to, written.as_slice(), sites)?;
         let start = tx.start.clone()?;
         sends.push((to, Packet::Prepare(slow, tx.tid, start, objects)))?;
         Ok(())
@@ -172,10 +174,10 @@ impl Tables {
     /// Puts the PREPARE of the slow commit of this number, where it waits for the site.
     fn put_waiting(&self, sends: &mut Vec<(SiteId, Packet)>, to: SiteId, slow: u64) -> Mem<()>
         ensures { OnOk result (sends.new.items ≡ sends.old.items
-            ++ to_one to (prepare_kept (catalog_of self.now) to slow (commit_of self.now.slow slow))) }
+            ++ to_one to (prepare_kept (sites_at self.now.wanted slow) to slow (commit_of self.now.slow slow))) }
     {
         match self.slow.waiting(slow, to) {
-            Some(tx) => self.put_prepare(sends, to, slow, tx),
+            Some(tx) => self.put_prepare(sends, to, slow, tx, self.wanted.sites(slow)),
             None => Ok(()),
         }
     }

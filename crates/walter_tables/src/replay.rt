@@ -18,7 +18,7 @@ pub enum ReplayFault {
     NoMemory,
 }
 
-#[tactic(auto, unfolding(crate::specs::Sites::values_of, crate::specs::Sites::site_of, crate::specs::Sites::catalog_of))]
+#[tactic(auto, unfolding(crate::specs::Sites::values_of, crate::specs::Sites::site_of, crate::specs::Sites::catalog_of, crate::specs::Sites::last_of))]
 impl Tables {
     /// Takes a record of the site's journal, behind those before it.
     pub fn replay(&mut self, rec: Record) -> Result<(), ReplayFault>

@@ -14,6 +14,7 @@ fn same_update(update: &Update, other: &Update) -> bool
         }
         (Update::Add(oid, id), Update::Add(at, other)) => oid == at && id == other,
         (Update::Del(oid, id), Update::Del(at, other)) => oid == at && id == other,
+        (Update::Move(container, to), Update::Move(of, other)) => container == of && to == other,
         _ => false,
     }
 }

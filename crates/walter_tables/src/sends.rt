@@ -5,17 +5,17 @@ ghost use Rattle.walter_rules.specs.Deliveries.{acknowledged_to, releases_to};
 ghost use Rattle.walter_rules.specs.Knowledge.{Knowledge, peers};
 ghost use Rattle.walter_rules.specs.Learning.{recorded, risen};
 ghost use Rattle.walter_rules.specs.Marks.{durable_mark};
-ghost use Rattle.walter_rules.specs.Objects.{participants};
+ghost use Rattle.walter_rules.specs.Objects.{objects_at, participants};
 ghost use Rattle.walter_rules.specs.Records.{CanFollow};
 ghost use Rattle.walter_rules.specs.Sending.{to_each, own_sends, prepare_of, said_again};
-ghost use Rattle.walter_tables.specs.Keeping.{asked_of};
-ghost use Rattle.walter_tables.specs.Sites.{values_of, site_of, catalog_of, Stands};
+ghost use Rattle.walter_tables.specs.Keeping.{asked_of, sites_here};
+ghost use Rattle.walter_tables.specs.Sites.{values_of, site_of, catalog_of, last_of, Stands};
 
 use crate::puts::put_release;
 use crate::tables::Tables;
 use walter_base::{Mem, Sends, SiteId, Sites, Tx};
 
-#[tactic(auto, unfolding(crate::specs::Sites::values_of, crate::specs::Sites::site_of, crate::specs::Sites::catalog_of))]
+#[tactic(auto, unfolding(crate::specs::Sites::values_of, crate::specs::Sites::site_of, crate::specs::Sites::catalog_of, crate::specs::Sites::last_of))]
 impl Tables {
     /// What an own commit puts out that is to be kept, where so many own commits were durable before and are now.
     pub(crate) fn own_sends(&self, seq: u64, tx: &Tx, before: u64, now: u64) -> Mem<Sends>
@@ -36,15 +36,22 @@ impl Tables {
     }
 
     /// The PREPAREs of a slow commit that begins, to the sites that it asks.
-    pub(crate) fn prepares(&self, slow: u64, tx: &Tx, asked: &Sites) -> Mem<Sends>
-        requires { asked.now ≡ asked_of (catalog_of self.now) (site_of self.now) tx.now.updates }
-        ensures { IfOk result (λ sends. (K : Knowledge) → let catalog = catalog_of self.now in
+    pub(crate) fn prepares(
+        &self,
+        slow: u64,
+        tx: &Tx,
+        asked: &Sites,
+        sites: &Sites,
+    ) -> Mem<Sends>
+        requires asked { asked.now ≡ asked_of (catalog_of self.now) (last_of self.now) (site_of self.now) tx.now.updates }
+        requires sites { sites.now ≡ sites_here (catalog_of self.now) (last_of self.now) tx.now.updates }
+        ensures { IfOk result (λ sends. (K : Knowledge) → Stands self.now K → let catalog = catalog_of self.now in
             sends ≡ to_each (participants catalog K (site_of self.now) tx.now.updates)
-            (λ k. prepare_of catalog K slow tx.now k ∷ [])) }
+            (λ k. prepare_of (λ p. objects_at catalog K p tx.now.updates) slow tx.now k ∷ [])) }
     {
         let mut sends = Vec::with_capacity(self.alloc, asked.as_slice().len())?;
         for to in asked.as_slice() {
-            self.put_prepare(&mut sends, *to, slow, tx)?;
+            self.put_prepare(&mut sends, *to, slow, tx, sites.as_slice())?;
         }
         Ok(Sends::from(sends))
     }

@@ -1,8 +1,9 @@
 //! Whether a transaction has a place for one more update, and the limits by which it has.
-ghost use Rattle.std.specs.Prelude.{◌≡◌, ◌≤◌};
+ghost use Rattle.std.specs.Prelude.{◌≡◌, ◌≤◌, ℕ, Bool};
 ghost use Rattle.walter_base.specs.declared.update.Update.{Update as Change};
+ghost use Rattle.walter_base.specs.Friends.{pair, both};
 ghost use Rattle.walter_base.specs.Sizes.{AreSmall, size_of_update};
-ghost use Rattle.walter_rules.specs.Calls.{has_place};
+ghost use Rattle.walter_rules.specs.Calls.{has_place, has_places};
 
 use walter_base::{Update, size_of_updates};
 
@@ -32,4 +33,13 @@ pub fn has_place(updates: &[Update], more: u64) -> bool
     ensures { (update : Change) → size_of_update update ≡ more → result ≡ has_place updates.now update }
 {
     updates.len() < MOST_UPDATES && size_of_updates(updates) + more <= MOST_SPELLED
+}
+
+/// Whether it has places for the updates of a pair of friends together.
+pub fn has_places(updates: &[Update]) -> bool
+    requires { AreSmall updates.now }
+    ensures { (friends a b : ℕ) (gain : Bool) → result ≡ has_places updates.now (both (pair friends a b gain)) }
+{
+    updates.len() + 2 <= MOST_UPDATES
+        && size_of_updates(updates) + 2 * SPELLS_COUNT <= MOST_SPELLED
 }

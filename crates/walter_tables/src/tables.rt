@@ -13,12 +13,13 @@ use std::alloc::Global;
 use walter_base::{Catalog, Format, Mem, SiteId, Updates};
 use walter_cset::Totals;
 use walter_durable::Durable;
+use walter_handover::Homes;
 use walter_history::History;
 use walter_locks::Locks;
 use walter_log::Log;
 use walter_rules::WINDOW;
 use walter_session::Sessions;
-use walter_slow::SlowCommits;
+use walter_slow::{SlowCommits, Wanted};
 use walter_spread::Spread;
 
 /// All that a site keeps. Contracts read it by what it stands for: what the site knows.
@@ -36,10 +37,13 @@ pub struct Tables {
     pub(crate) totals: Totals,
     // The updates whose ids were given places last, by a plan that may have been dropped.
     pub(crate) placed: Option<Updates>,
+    // Where the containers are preferred, by the own commits and those seen here.
+    pub(crate) homes: Homes,
     pub(crate) spread: Spread,
     pub(crate) durable: Durable,
     pub(crate) locks: Locks,
     pub(crate) slow: SlowCommits,
+    pub(crate) wanted: Wanted,
     pub(crate) sessions: Sessions,
     ghost here: { site.0 < catalog.sites },
     ghost most: { catalog.sites ≤ most_sites },
@@ -60,7 +64,7 @@ pub struct Tables {
     ghost open: { AreOpenAt catalog site (sessions_of sessions) } by { Prim.hlevel props },
 }
 
-#[tactic(auto, unfolding(crate::specs::Sites::values_of, crate::specs::Sites::site_of, crate::specs::Sites::catalog_of))]
+#[tactic(auto, unfolding(crate::specs::Sites::values_of, crate::specs::Sites::site_of, crate::specs::Sites::catalog_of, crate::specs::Sites::last_of))]
 impl Tables {
     ghost use Rattle.walter_rules.specs.Knowledge.{fresh};
     ghost use Rattle.walter_tables.specs.Sites.{values_of, site_of, catalog_of, Stands};
@@ -89,10 +93,12 @@ impl Tables {
             history: History::new(alloc, sites),
             totals: Totals::new(alloc),
             placed: None,
+            homes: Homes::new(alloc),
             spread: Spread::new(site, sites, WINDOW),
             durable,
             locks,
             slow: SlowCommits::new(alloc),
+            wanted: Wanted::new(alloc),
             sessions: Sessions::new(alloc),
         })
     }

@@ -13,7 +13,7 @@ use crate::plan::Planned;
 use crate::tables::Tables;
 use walter_base::{Format, MaybeRecord, Mem, Record};
 
-#[tactic(auto, unfolding(crate::specs::Sites::values_of, crate::specs::Sites::site_of, crate::specs::Sites::catalog_of))]
+#[tactic(auto, unfolding(crate::specs::Sites::values_of, crate::specs::Sites::site_of, crate::specs::Sites::catalog_of, crate::specs::Sites::last_of))]
 impl Tables {
     /// What comes of an upgrade of a site whose journal has a header that names this format.
     pub fn plan_upgrade(&self, header: Format) -> Mem<Planned>

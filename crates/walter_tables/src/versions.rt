@@ -25,7 +25,7 @@ impl Rows for Tables {
     }
 }
 
-#[tactic(auto, unfolding(crate::specs::Sites::values_of, crate::specs::Sites::site_of, crate::specs::Sites::catalog_of))]
+#[tactic(auto, unfolding(crate::specs::Sites::values_of, crate::specs::Sites::site_of, crate::specs::Sites::catalog_of, crate::specs::Sites::last_of))]
 impl Tables {
     /// What stands first in the way of a commit of the objects.
     pub(crate) fn conflict(&self, start: &Vts, objects: &Objects) -> Option<Conflict>

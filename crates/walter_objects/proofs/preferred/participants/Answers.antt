@@ -11,7 +11,7 @@ use Rattle.walter_objects.proofs.preferred.participants.Goals.{then-takes_part+i
 pub loop-k-preserved : goal.loop-k-preserved
 loop-k-preserved c =
     let k = c.loop-k.k in
-    let takes = takes_part c.args.catalog.now c.args.moves.now c.args.site c.args.objects.now in
+    let takes = takes_part c.args.catalog.now c.args.homes.now.last c.args.site c.args.objects.now in
     let so_far = filter takes (map site_at (range_with_len 0 k)) in
     let more = filter_of_map_range_with_len_more takes site_at 0 k k (omega arith) in
     elim c.if-takes_part.branch [
@@ -30,5 +30,5 @@ returns c =
     let catalog = c.args.catalog.now in
     let all : c.loop-k.k ≡ catalog.sites = omega (arith, c.loop-k.auto.k-end, c.loop-k-test.false) in
     c.from.ensures ∙ c.loop-k.invariant
-    ∙ ap (λ n. filter (takes_part catalog c.args.moves.now c.args.site c.args.objects.now) (map site_at (range_with_len 0 n))) all
-    ∙ both_filter (is_home_among catalog c.args.moves.now c.args.objects.now) (λ k. not (same_site k c.args.site)) (map site_at (range_with_len 0 catalog.sites))
+    ∙ ap (λ n. filter (takes_part catalog c.args.homes.now.last c.args.site c.args.objects.now) (map site_at (range_with_len 0 n))) all
+    ∙ both_filter (is_home_among catalog c.args.homes.now.last c.args.objects.now) (λ k. not (same_site k c.args.site)) (map site_at (range_with_len 0 catalog.sites))

@@ -6,4 +6,4 @@ use Rattle.walter_objects.proofs.preferred.participants.Given as goal
 
 -- those of the sites so far
 abbrev pub invariant-loop-k : goal.invariant-loop-k
-invariant-loop-k l = l.sites.items ≡ filter (takes_part l.catalog l.moves l.fn.site l.objects) (map site_at (range_with_len 0 l.k))
+invariant-loop-k l = l.sites.items ≡ filter (takes_part l.catalog l.homes.last l.fn.site l.objects) (map site_at (range_with_len 0 l.k))
